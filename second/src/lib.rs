@@ -1,0 +1,25 @@
+//! Constant products as clauses: plan a recipe for `c`, check one, write its
+//! clauses, print them as a DIMACS file. Written from document 01 alone, to
+//! stand beside the first engine and be compared with it.
+
+#![forbid(unsafe_code)]
+
+mod bit;
+pub mod cases;
+mod checker;
+mod column;
+mod line;
+mod number;
+mod planner;
+mod printer;
+mod random;
+mod refusal;
+mod split;
+pub mod streams;
+mod truth;
+mod writer;
+
+pub use checker::check;
+pub use planner::plan;
+pub use printer::{print, print_recipe};
+pub use writer::{write, Counts};

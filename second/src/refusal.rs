@@ -1,0 +1,34 @@
+//! Refusal numbers, and lists of refusal tests tried in order.
+
+pub const C_RANGE: u8 = 1;
+pub const W_RANGE: u8 = 2;
+pub const RECIPE_LENGTH: u8 = 3;
+pub const LINE_FORM: u8 = 4;
+pub const LINE_OPERAND: u8 = 5;
+pub const LINE_EVEN: u8 = 6;
+pub const LINE_COEFFICIENT: u8 = 7;
+pub const PRODUCT: u8 = 8;
+pub const BIT_ROOM: u8 = 9;
+pub const CLAUSE_ROOM: u8 = 10;
+pub const WORK_ROOM: u8 = 11;
+pub const RECIPE_ROOM: u8 = 12;
+pub const INPUT: u8 = 13;
+
+const C_MAX: u64 = 65_535;
+const W_MAX: u64 = 16;
+
+/// The number of the first test that speaks against going on.
+pub fn first_of(tests: &[(u8, bool)]) -> Result<(), u8> {
+    match tests.iter().find(|(_, refused)| *refused) {
+        Some((number, _)) => Err(*number),
+        None => Ok(()),
+    }
+}
+
+pub fn c_out_of_range(c: u64) -> bool {
+    !(1..=C_MAX).contains(&c)
+}
+
+pub fn w_out_of_range(w: u64) -> bool {
+    !(1..=W_MAX).contains(&w)
+}

@@ -1,0 +1,303 @@
+//! Calls as records on a byte stream, for programs to answer, and the answers
+//! that are right. A stream's records are given with each pair of functions.
+
+use crate::line::{Line, LINE_BYTES, MAX_LINES};
+use crate::random::Random;
+use crate::{check, plan, write};
+
+const MAX_COEFFICIENT: i64 = 1_048_575;
+const MAX_CONSTANT: u64 = 65_535;
+
+/// Takes records apart; a stream that ends inside a record ends there.
+struct Reader<'a>(&'a [u8]);
+
+impl<'a> Reader<'a> {
+    fn take(&mut self, length: usize) -> Option<&'a [u8]> {
+        let (front, rest) = self.0.split_at_checked(length)?;
+        self.0 = rest;
+        Some(front)
+    }
+
+    fn number(&mut self, bytes: usize) -> Option<u64> {
+        Some(self.take(bytes)?.iter().fold(0, |number, byte| number * 256 + u64::from(*byte)))
+    }
+}
+
+fn planned(c: u64) -> Vec<u8> {
+    let mut recipe = vec![0; 40];
+    let lines = plan(c, &mut vec![0; 1 << 15], &mut recipe).expect("c is in range");
+    recipe.truncate(LINE_BYTES * lines);
+    recipe
+}
+
+/// One more line that is right over the coefficients so far, if the draw gives
+/// one of at most `most`.
+fn drawn_line(coefficients: &[u64], most: i64, random: &mut Random) -> Option<Line> {
+    let place = |random: &mut Random| random.up_to(coefficients.len() as u64 - 1) as usize;
+    let most_s = if random.one_in(3) { 19 } else { 5 };
+    let (kind, s) = (1 + random.up_to(2), 1 + random.up_to(most_s) as u32);
+    let mut line = Line { top: 0, kind, left: place(random), s, right: place(random), claimed: 0 };
+    let value = line.gives(coefficients).filter(|value| (1..=most).contains(value))?;
+    line.claimed = value as u64;
+    Some(line)
+}
+
+/// A right recipe of so many lines that nobody planned, and its product, which
+/// is at most 65,535; with no lines it is 1.
+fn walk(lines: usize, random: &mut Random) -> (u64, Vec<u8>) {
+    let (mut coefficients, mut recipe) = (vec![1], Vec::new());
+    while recipe.len() < LINE_BYTES * lines {
+        let last = recipe.len() + LINE_BYTES == LINE_BYTES * lines;
+        let most = if last { MAX_CONSTANT as i64 } else { MAX_COEFFICIENT };
+        if let Some(line) = drawn_line(&coefficients, most, random) {
+            coefficients.push(line.claimed);
+            recipe.extend(line.pack());
+        }
+    }
+    (coefficients[lines], recipe)
+}
+
+/// A constant and a recipe for it: planned, or a walk.
+fn right(random: &mut Random) -> (u64, Vec<u8>) {
+    if random.one_in(4) {
+        let c = 1 + random.up_to(MAX_CONSTANT - 1);
+        return (c, planned(c));
+    }
+    let most_lines = if random.one_in(3) { 32 } else { 8 };
+    let lines = random.up_to(most_lines) as usize;
+    let (d, recipe) = walk(lines, random);
+    let most = MAX_CONSTANT.ilog2() - d.ilog2();
+    (d << random.up_to(u64::from(most)), recipe)
+}
+
+fn turned_over(recipe: &mut [u8], random: &mut Random) {
+    if !recipe.is_empty() {
+        let bit = random.up_to(8 * recipe.len() as u64 - 1) as usize;
+        recipe[bit / 8] ^= 0x80 >> (bit % 8);
+    }
+}
+
+/// Any constant of 32 bits, most of them in range.
+fn any_constant(random: &mut Random) -> u64 {
+    match random.up_to(9) {
+        0 => random.up_to(u64::from(u32::MAX)),
+        1 => 65_534 + random.up_to(3),
+        2 => random.up_to(3),
+        _ => random.up_to(MAX_CONSTANT),
+    }
+}
+
+/// A constant and a recipe, right or wrong in some way.
+fn proposed(round: usize, random: &mut Random) -> (u64, Vec<u8>) {
+    if round <= 170 {
+        return (any_constant(random), random.bytes(round));
+    }
+    let (mut c, mut recipe) = right(random);
+    match random.up_to(9) {
+        0..=4 => {}
+        5..=6 => turned_over(&mut recipe, random),
+        7 => c = any_constant(random),
+        8 => recipe = lines_at_random(random),
+        _ => {
+            recipe = {
+                let length = random.up_to(170) as usize;
+                random.bytes(length)
+            }
+        }
+    }
+    (c, recipe)
+}
+
+/// Lines that break no rule but by chance the later ones.
+fn lines_at_random(random: &mut Random) -> Vec<u8> {
+    let lines = random.up_to(MAX_LINES as u64) as usize;
+    let line = |i: usize, random: &mut Random| {
+        let latest = i as u64 + u64::from(random.one_in(8));
+        let (left, right) = (random.up_to(latest) as usize, random.up_to(latest) as usize);
+        let (kind, s, claimed) =
+            (1 + random.up_to(2), random.up_to(31) as u32, random.up_to(MAX_COEFFICIENT as u64) | 1);
+        Line { top: 0, kind, left, s, right, claimed }.pack()
+    };
+    (0..lines).flat_map(|i| line(i, random)).collect()
+}
+
+/// Document 01's own recipes: a constant and lines of kind, left, s, right and claimed coefficient.
+fn bench_recipes() -> Vec<(u64, Vec<u8>)> {
+    type Fields = (u64, usize, u32, usize, u64);
+    let rows: [(u64, &[Fields]); 14] = [
+        (59, &[(2, 0, 6, 0, 63), (3, 1, 2, 0, 59)]),
+        (1965, &[(1, 0, 1, 0, 3), (1, 0, 7, 1, 131), (2, 2, 4, 2, 1965)]),
+        (2047, &[(1, 0, 11, 0, 2047)]),
+        (49, &[(2, 0, 4, 0, 15), (1, 0, 6, 1, 49)]),
+        (117, &[(1, 0, 4, 0, 17), (1, 0, 1, 1, 19), (2, 1, 3, 2, 117)]),
+        (117, &[(2, 0, 6, 0, 63), (3, 1, 2, 0, 59), (2, 2, 1, 0, 117)]),
+        (117, &[(1, 0, 1, 0, 3), (1, 1, 4, 0, 49), (1, 0, 4, 0, 17), (1, 3, 2, 2, 117)]),
+        (5, &[(1, 0, 1, 0, 3), (2, 1, 1, 0, 5)]),
+        (3, &[(1, 0, 1, 0, 3); 32]),
+        (3, &[(1, 0, 1, 0, 3); 33]),
+        (1, &[(2, 0, 20, 0, 1_048_575)]),
+        (65_535, &[(2, 0, 20, 0, 1_048_575), (2, 0, 16, 0, 65_535)]),
+        (65_535, &[(2, 0, 16, 0, 65_535)]),
+        (65_536, &[(2, 0, 16, 0, 65_535)]),
+    ];
+    let line = |&(kind, left, s, right, claimed): &Fields| Line { top: 0, kind, left, s, right, claimed }.pack();
+    rows.iter().map(|(c, lines)| (*c, lines.iter().flat_map(line).collect())).collect()
+}
+
+// ---- checking: c (4 bytes, most significant first), the recipe's length (1), the recipe. The answer is a letter, A for
+// accepted, B for refusal 1 and so on; a newline after every 64 and at the end of a last row that is shorter.
+
+pub fn recipes(seed: u64, count: usize) -> Vec<u8> {
+    let mut random = Random::seeded(seed);
+    let mut cases = bench_recipes();
+    cases.extend((0..count).map(|round| proposed(round, &mut random)));
+    let mut stream = Vec::new();
+    for (c, recipe) in cases {
+        stream.extend((c as u32).to_be_bytes());
+        stream.push(recipe.len() as u8);
+        stream.extend(recipe);
+    }
+    stream
+}
+
+fn recipe_record<'a>(reader: &mut Reader<'a>) -> Option<(u64, &'a [u8])> {
+    let (c, length) = (reader.number(4)?, reader.number(1)?);
+    Some((c, reader.take(length as usize)?))
+}
+
+pub fn recipe_answers(stream: &[u8]) -> Vec<u8> {
+    let mut reader = Reader(stream);
+    let mut letters = Vec::new();
+    while let Some((c, recipe)) = recipe_record(&mut reader) {
+        letters.push(b'A' + check(c, recipe).err().unwrap_or(0));
+    }
+    letters.chunks(64).flat_map(|row| [row, b"\n"].concat()).collect()
+}
+
+// ---- writing: c (4), w (1), the lengths of the recipe (1), of the bit room (1) and of the clause room (2), the recipe. The
+// answer is a line: the refusal's number or 0, words, clauses, highest variable, bits of y, and a checksum of both rooms at
+// exit, every entry of which was 7.
+
+fn checksum(entries: impl Iterator<Item = u32>) -> u32 {
+    entries.fold(0, |sum: u32, entry| sum.wrapping_mul(31).wrapping_add(entry))
+}
+
+/// The rooms' lengths: mostly what is needed and some more, else one too short.
+fn rooms(c: u64, w: u64, recipe: &[u8], random: &mut Random) -> (u8, u16) {
+    let needed = write(c, w, recipe, &mut [0; 32], &mut vec![0; 73_728]);
+    let (mut bits, mut words) = needed.map_or((5, 5), |counts| (counts.bits, counts.words));
+    match random.up_to(7) {
+        0 => bits -= usize::from(bits > 0),
+        1 => words -= usize::from(words > 0),
+        2 => {}
+        _ => (bits, words) = (bits + random.up_to(3) as usize, words + random.up_to(5) as usize),
+    }
+    (bits as u8, words.min(65_535) as u16)
+}
+
+fn write_case(round: usize, random: &mut Random) -> (u64, u64, Vec<u8>) {
+    let (c, recipe) = if random.one_in(12) { proposed(round, random) } else { right(random) };
+    let w = if random.one_in(40) { random.up_to(255) } else { 1 + random.up_to(15) };
+    (c, w, recipe)
+}
+
+/// A constant, a width, a recipe and the lengths of both rooms.
+type WriteCase = (u64, u64, Vec<u8>, (u8, u16));
+
+/// Document 01's recipes at widths 1 to 4 and 16 in long rooms, and its rooms that are one too short.
+fn bench_writes() -> Vec<WriteCase> {
+    let mut cases = Vec::new();
+    for (c, recipe) in bench_recipes() {
+        cases.extend([1, 2, 3, 4, 16, 17, 0].map(|w| (c, w, recipe.clone(), (40, 9_000))));
+    }
+    let three = planned(3);
+    cases.extend([(4, 52), (4, 51), (3, 52), (3, 51)].map(|rooms| (3, 2, three.clone(), rooms)));
+    cases.extend([(5, 2), (7, 1), (6, 2), (53, 8)].map(|(c, w)| (c, w, planned(c), (20, 2_000))));
+    cases
+}
+
+pub fn writes(seed: u64, count: usize) -> Vec<u8> {
+    let mut random = Random::seeded(seed);
+    let mut cases = bench_writes();
+    cases.extend((0..count).map(|round| {
+        let (c, w, recipe) = write_case(171 + round, &mut random);
+        let rooms = rooms(c, w, &recipe, &mut random);
+        (c, w, recipe, rooms)
+    }));
+    let mut stream = Vec::new();
+    for (c, w, recipe, (bits, clauses)) in cases {
+        stream.extend((c as u32).to_be_bytes());
+        stream.extend([w as u8, recipe.len() as u8, bits]);
+        stream.extend(clauses.to_be_bytes());
+        stream.extend(recipe);
+    }
+    stream
+}
+
+fn write_line(reader: &mut Reader) -> Option<String> {
+    let (c, w, length) = (reader.number(4)?, reader.number(1)?, reader.number(1)?);
+    let (mut bits, mut clauses) = (vec![7; reader.number(1)? as usize], vec![7; reader.number(2)? as usize]);
+    let answer = write(c, w, reader.take(length as usize)?, &mut bits, &mut clauses);
+    let number = answer.as_ref().err().map_or(0, |number| *number);
+    let counts = answer.map_or([0; 4], |counts| [counts.words, counts.clauses, counts.highest as usize, counts.bits]);
+    let sum = checksum(bits.iter().chain(&clauses).map(|entry| *entry as u32));
+    Some(format!("{number} {} {} {} {} {sum}\n", counts[0], counts[1], counts[2], counts[3]))
+}
+
+pub fn write_answers(stream: &[u8]) -> Vec<u8> {
+    let mut reader = Reader(stream);
+    std::iter::from_fn(|| write_line(&mut reader)).collect::<String>().into_bytes()
+}
+
+// ---- planning: c (4), the lengths of the work room (2) and of the recipe room (1), and whether the work room is to be shown
+// (1). The answer is six bytes: the refusal's number or 0, the lines, and a checksum of both rooms at exit, every byte of which
+// was 7; then the work room, if it is to be shown.
+
+pub fn plans(seed: u64, count: usize) -> Vec<u8> {
+    let mut random = Random::seeded(seed);
+    let mut stream = Vec::new();
+    let mut put = |c: u64, work: usize, recipe: usize, show: u8| {
+        stream.extend((c as u32).to_be_bytes());
+        stream.extend((work as u16).to_be_bytes());
+        stream.extend([recipe as u8, show]);
+    };
+    put(65_535, 32_768, 40, 1);
+    for (c, work, recipe) in
+        [(53, 32, 15), (53, 32, 14), (53, 31, 15), (7, 4, 5), (1, 1, 0), (65_536, 32_768, 40), (0, 9, 9)]
+    {
+        put(c, work, recipe, 1);
+    }
+    for round in 0..count {
+        // few of the longest tables: each plan fills its own
+        let bits = 1 + (round % 16).min(random.up_to(15) as usize);
+        let d = (1 << (bits - 1) | random.up_to((1 << (bits - 1)) - 1)) | 1;
+        let c = d << random.up_to(16 - bits as u64);
+        let (work, recipe) = (1 << (bits - 1), LINE_BYTES * (bits / 2));
+        match random.up_to(9) {
+            0 => put(c, work - 1, recipe, 0),
+            1 => put(c, work, recipe - usize::from(recipe > 0), 0),
+            2 => put(any_constant(&mut random), work, recipe, 0),
+            3 => put(c, work + random.up_to(9) as usize, recipe + random.up_to(9) as usize, 0),
+            _ => put(c, work, recipe, 0),
+        }
+    }
+    stream
+}
+
+fn plan_bytes(reader: &mut Reader) -> Option<Vec<u8>> {
+    let (c, work, recipe, show) = (reader.number(4)?, reader.number(2)?, reader.number(1)?, reader.number(1)?);
+    let (mut work, mut recipe) = (vec![7; work as usize], vec![7; recipe as usize]);
+    let answer = plan(c, &mut work, &mut recipe);
+    let sum = checksum(work.iter().chain(&recipe).map(|byte| u32::from(*byte)));
+    let mut bytes = vec![answer.err().unwrap_or(0), answer.unwrap_or(0) as u8];
+    bytes.extend(sum.to_be_bytes());
+    if show == 1 {
+        bytes.extend(work);
+    }
+    Some(bytes)
+}
+
+pub fn plan_answers(stream: &[u8]) -> Vec<u8> {
+    let mut reader = Reader(stream);
+    std::iter::from_fn(|| plan_bytes(&mut reader)).flatten().collect()
+}

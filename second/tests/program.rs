@@ -1,0 +1,82 @@
+//! The program `second` as a caller meets it.
+
+use std::io::Write;
+use std::process::{Command, Output, Stdio};
+
+fn run(words: &[&str], input: &[u8]) -> Output {
+    let mut child = Command::new(env!("CARGO_BIN_EXE_second"))
+        .args(words)
+        .stdin(Stdio::piped())
+        .stdout(Stdio::piped())
+        .stderr(Stdio::piped())
+        .spawn()
+        .unwrap();
+    // A program that does not read may have closed its input already.
+    let _ = child.stdin.take().unwrap().write_all(input);
+    child.wait_with_output().unwrap()
+}
+
+fn output(words: &[&str]) -> String {
+    let output = run(words, b"");
+    assert!(output.status.success() && output.stderr.is_empty(), "{words:?}");
+    String::from_utf8(output.stdout).unwrap()
+}
+
+#[test]
+fn plan() {
+    assert_eq!(output(&["plan", "53"]), "3\n20 04 00 00 03\n20 88 00 00 0D\n21 08 00 00 35\n");
+    assert_eq!(output(&["plan", "1"]), "0\n");
+    assert_eq!(output(&["plan", "0"]), "refused 1\n");
+    assert_eq!(output(&["plan", "65536"]), "refused 1\n");
+}
+
+#[test]
+fn check() {
+    assert_eq!(output(&["check", "59", "40 18 00 00 3F\n60 88 00 00 3B\n"]), "accepted\n");
+    assert_eq!(output(&["check", "59", "401800003f608800003b"]), "accepted\n");
+    assert_eq!(output(&["check", "8", ""]), "accepted\n");
+    assert_eq!(output(&["check", "59", "40"]), "refused 3\n");
+    assert_eq!(output(&["check", "61", "401800003F608800003B"]), "refused 8\n");
+}
+
+#[test]
+fn write() {
+    let file = String::from_utf8(second::print(b"3 2\n")).unwrap();
+    assert_eq!(output(&["write", "3", "2"]), file);
+    assert_eq!(output(&["write", "3", "2", "2004000003"]), file);
+    assert_eq!(output(&["write", "5", "1", "2004000003 4084000005"]).lines().count(), 14);
+    assert_eq!(output(&["write", "3", "17"]), "refused 2\n");
+    assert_eq!(output(&["write", "0", "17"]), "refused 1\n");
+    assert_eq!(output(&["write", "3", "2", ""]), "refused 8\n");
+}
+
+#[test]
+fn print() {
+    for input in [&b"3 2\n"[..], b"6 02\n", b"0 1\n", b"3 2", b""] {
+        let output = run(&["print"], input);
+        assert!(output.status.success());
+        assert_eq!(output.stdout, second::print(input));
+    }
+}
+
+#[test]
+fn wrong_usage() {
+    let wrong: [&[&str]; 11] = [
+        &[],
+        &["plan"],
+        &["plan", "x"],
+        &["plan", "-1"],
+        &["plan", "+1"],
+        &["plan", ""],
+        &["plan", "3", "4"],
+        &["check", "3"],
+        &["check", "3", "20040"],
+        &["check", "3", "zz"],
+        &["solve", "3"],
+    ];
+    for words in wrong {
+        let output = run(words, b"");
+        assert_eq!(output.status.code(), Some(2), "{words:?}");
+        assert!(output.stdout.is_empty() && output.stderr.starts_with(b"usage: "), "{words:?}");
+    }
+}
