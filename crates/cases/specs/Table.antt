@@ -1,0 +1,69 @@
+-- A table of worked cases: what goes into each call, and what comes out of it. Rooms are given by their lengths; every entry
+-- of a room is 7 before the call.
+use Prim.Native.Nat.{ℕ}
+use mathlib.Core.List.{List}
+use lib.IntN.{ℤ}
+
+-- the chosen split of an odd n
+pub record Chosen : Type 0 where
+  pub n : ℕ
+  pub split : ℕ
+
+-- planning: the refusal's number, or 0, and the bytes of the lines
+pub record Planned : Type 0 where
+  pub c : ℕ
+  pub work : ℕ
+  pub recipe : ℕ
+  pub number : ℕ
+  pub lines : List ℕ
+
+-- both rooms of a planning at exit
+pub record PlanRooms : Type 0 where
+  pub c : ℕ
+  pub work : ℕ
+  pub recipe : ℕ
+  pub work-room : List ℕ
+  pub recipe-room : List ℕ
+
+-- checking: the refusal's number, or 0
+pub record Checked : Type 0 where
+  pub c : ℕ
+  pub recipe : List ℕ
+  pub number : ℕ
+
+-- writing: the refusal's number, or 0, the counts, and y
+pub record Written : Type 0 where
+  pub c : ℕ
+  pub w : ℕ
+  pub recipe : List ℕ
+  pub bits : ℕ
+  pub clauses : ℕ
+  pub number : ℕ
+  pub words-used : ℕ
+  pub clauses-written : ℕ
+  pub highest : ℕ
+  pub y : List ℤ
+
+-- both rooms of a writing at exit
+pub record WriteRooms : Type 0 where
+  pub c : ℕ
+  pub w : ℕ
+  pub recipe : List ℕ
+  pub bits : ℕ
+  pub clauses : ℕ
+  pub bit-room : List ℤ
+  pub clause-room : List ℤ
+
+-- what the program prints for an input
+pub record Printed : Type 0 where
+  pub input : List ℕ
+  pub output : List ℕ
+
+pub record Table : Type 0 where
+  pub chosen : List Chosen
+  pub planned : List Planned
+  pub plan-rooms : List PlanRooms
+  pub checked : List Checked
+  pub written : List Written
+  pub write-rooms : List WriteRooms
+  pub printed : List Printed

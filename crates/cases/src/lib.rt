@@ -1,0 +1,1 @@
+// Cases worked outside, as numbers: no call is named here.
