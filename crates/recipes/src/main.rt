@@ -1,0 +1,76 @@
+// Reads records from standard input, each a constant and a recipe, and writes a letter for each: the number of the check's answer, from 'A' on,
+// 64 letters to a line. A record that the input cuts off gets none.
+
+use libc::STDIN_FILENO;
+use libc::STDOUT_FILENO;
+ghost use mathlib.Core.Path.{_≡_};
+ghost use Prim.Native.Nat.{_≤_, _<_, _^_};
+ghost use lib.ListN.{length};
+ghost use Rattle.recipes.specs.Record.{constant-of, letter-of};
+
+// More than any input has: the loop has to end.
+const MOST_RECORDS: u64 = 1_000_000_000;
+
+fn wide(b: u8) -> u64
+    ensures { λ r. ⌜ (r ≡ b) × (r < 256) ⌝ }
+{
+    b as u64
+}
+
+// The constant of a record.
+fn constant(bytes: &[u8]) -> u64
+    requires { ⌜ 5 ≤ length (now bytes) ⌝ }
+    ensures { λ r. ⌜ (r ≡ constant-of (now (bytes .entry))) × (r < 2 ^ 32) ⌝ }
+{
+    ((wide(bytes[0]) * 256 + wide(bytes[1])) * 256 + wide(bytes[2])) * 256 + wide(bytes[3])
+}
+
+// The answer to a record.
+fn letter(bytes: &[u8]) -> u8
+    requires { ⌜ 5 ≤ length (now bytes) ⌝ }
+    ensures { λ r. ⌜ r ≡ letter-of (now (bytes .entry)) ⌝ }
+{
+    let c = constant(bytes);
+    let answer = recipe::check(c, &bytes[5..]);
+    (65 + answer.number()) as u8
+}
+
+// The next record, at the front of the room, and its length; 0 where there is none.
+fn read_record(room: &mut [u8]) -> usize
+    requires { ⌜ length (now room) ≡ 260 ⌝ }
+    ensures { λ r. ⌜ r ≤ 260 ⌝ }
+{
+    let head = io::read_full(STDIN_FILENO, &mut room[..5]);
+    if head < 5 {
+        return 0;
+    }
+    let n = wide(room[4]) as usize;
+    let e = 5 + n;
+    let body = io::read_full(STDIN_FILENO, &mut room[5..e]);
+    if body < n {
+        return 0;
+    }
+    e
+}
+
+fn main() {
+    let mut room = [0u8; 260];
+    let mut letters = [10u8; 65];
+    let mut k: usize = 0;
+    for _ in 0..MOST_RECORDS {
+        let n = read_record(&mut room);
+        if n < 5 {
+            break;
+        }
+        letters[k] = letter(&room[..n]);
+        k += 1;
+        if k == 64 {
+            io::write_all(STDOUT_FILENO, &letters);
+            k = 0;
+        }
+    }
+    if k > 0 {
+        letters[k] = 10;
+        io::write_all(STDOUT_FILENO, &letters[..k + 1]);
+    }
+}
