@@ -1,0 +1,13 @@
+pub mod Rooms
+pub mod Formulas
+pub mod Places
+pub mod Walks
+pub mod Above
+pub mod Counts
+pub mod Fills
+pub mod Puts
+pub mod Recipes
+pub mod Bytes
+pub mod Plans
+pub mod Exact
+pub mod Accepts

@@ -1,0 +1,10 @@
+pub mod Table
+pub mod Cases
+pub mod Splits
+pub mod Sets
+pub mod Reach
+pub mod Choose
+pub mod Closed
+pub mod Order
+pub mod Lines
+pub mod Form
