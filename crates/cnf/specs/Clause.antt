@@ -1,0 +1,43 @@
+-- Variables, literals and clauses, and their meaning under an assignment.
+use Prim.Native.Nat.{ℕ}
+use mathlib.Core.Bool.{Bool, true, false, not, _&&_, _||_}
+use mathlib.Core.List.{List, [], _∷_}
+
+-- a variable's number, and whether it stands negated
+pub record Literal : Type 0 where
+  pub variable : ℕ
+  pub negated : Bool
+
+abbrev pub Clause : Type 0
+Clause = List Literal
+
+abbrev pub Assignment : Type 0
+Assignment = ℕ → Bool
+
+-- b, negated where s is true
+abbrev pub flips : Bool → Bool → Bool
+flips true b = not b
+flips false b = b
+
+-- the literal l, negated where s is true
+abbrev pub signed : Bool → Literal → Literal
+signed s l = record { variable = l .variable; negated = flips s (l .negated) }
+
+abbrev pub negation : Literal → Literal
+negation l = signed true l
+
+-- the variable n as a literal
+abbrev pub new : ℕ → Literal
+new n = record { variable = n; negated = false }
+
+abbrev pub value : Assignment → Literal → Bool
+value α l = flips (l .negated) (α (l .variable))
+
+-- a clause holds when one literal holds
+abbrev pub holds : Assignment → Clause → Bool
+holds α [] = false
+holds α (l ∷ c) = value α l || holds α c
+
+abbrev pub satisfies : Assignment → List Clause → Bool
+satisfies α [] = true
+satisfies α (c ∷ cs) = holds α c && satisfies α cs

@@ -1,0 +1,1 @@
+// Clauses and their meaning: definitions and laws only.

@@ -1,0 +1,133 @@
+-- At most fourteen clauses and 64 words in a column, so at most 14 * (L + w) clauses and 64 * (L + w) words in a line whose coefficient has at
+-- most L bits. From the column up this is one law, over whatever is counted of clauses.
+use Prim.Native.Nat.{ℕ, zero, suc, _+_, _*_, _/_, _^_, _≤_, _<_}
+use mathlib.Core.Path.{_≡_, refl, ap, _∙_, subst}
+use mathlib.Core.Bool.{Bool, true, false}
+use mathlib.Core.List.{List, [], _∷_, _++_}
+use native.Mathlib.Nat.{mul-suc, mul-le-mul-left}
+use native.Mathlib.Omega.{arith}
+use lib.ListN.{length, getD, length-append}
+use Rattle.line.specs.Line.{Kind, splus, sminus, minuss, kind-of}
+use Rattle.line.specs.declared.Line.{Line}
+use Rattle.line.specs.Number.{bit-length}
+use Rattle.line.proofs.Number.{lt-bits}
+use Rattle.recipe.specs.Check.{line-at}
+use Rattle.cnf.specs.Clause.{Literal, Clause}
+use Rattle.cnf.specs.Words.{words}
+use Rattle.cnf.proofs.Words.{words-append}
+use Rattle.product.specs.Bit.{Bit, fixed, unfixed, variables}
+use Rattle.product.specs.Column.{fixed-sum, literals, Made, parity, sum, both, either, most, carry, carry-unless, column}
+use Rattle.product.specs.Lines.{none-left, adder, shifted, line-sum, columns, line-encoded, encoded}
+use Rattle.product.specs.Product.{lines-from, lines-of, product, product-of, clause-words}
+use Rattle.product.proofs.BitLengths.{columns-le}
+use Rattle.product.proofs.Lengths.{length-fitted, length-variables, length-lines}
+
+-- a column has three inputs
+pub inputs-few : (bs : List Bit) → fixed-sum bs + length (literals bs) ≤ length bs
+inputs-few [] = omega arith
+inputs-few (fixed true ∷ bs) = omega (arith, inputs-few bs)
+inputs-few (fixed false ∷ bs) = omega (arith, inputs-few bs)
+inputs-few (unfixed l ∷ bs) = omega (arith, inputs-few bs)
+
+-- ---- a column
+
+sum-clauses : (f n : ℕ) (ps : List Literal) → length ps ≤ 3 → (length (sum f ps n .clauses) ≤ 8) × (length (words (sum f ps n .clauses)) ≤ 40)
+unfolding sum parity
+sum-clauses f n [] h = omega arith
+sum-clauses f n (p ∷ []) h = omega arith
+sum-clauses f n (p ∷ q ∷ []) h = omega arith
+sum-clauses f n (p ∷ q ∷ r ∷ []) h = omega arith
+sum-clauses f n (p ∷ q ∷ r ∷ s ∷ ps) h = absurd (omega arith)
+
+carry-clauses : (last : Bool) (f n : ℕ) (ps : List Literal)
+    → (length (carry-unless last f ps n .clauses) ≤ 6) × (length (words (carry-unless last f ps n .clauses)) ≤ 24)
+unfolding carry carry-unless both either most
+carry-clauses true f n ps = omega arith
+carry-clauses false f n [] = omega arith
+carry-clauses false zero n (p ∷ []) = omega arith
+carry-clauses false (suc zero) n (p ∷ []) = omega arith
+carry-clauses false (suc (suc f)) n (p ∷ []) = omega arith
+carry-clauses false zero n (p ∷ q ∷ []) = omega arith
+carry-clauses false (suc f) n (p ∷ q ∷ []) = omega arith
+carry-clauses false zero n (p ∷ q ∷ r ∷ ps) = omega arith
+carry-clauses false (suc f) n (p ∷ q ∷ r ∷ ps) = omega arith
+
+words-of-both : (cs ds : List Clause) → length (words (cs ++ ds)) ≡ length (words cs) + length (words ds)
+words-of-both cs ds = ap length (words-append cs ds) ∙ length-append (words cs) (words ds)
+
+column-clauses : (l r c : Bit) (last : Bool) (n : ℕ) → (length (column l r c last n .clauses) ≤ 14) × (length (words (column l r c last n .clauses)) ≤ 64)
+unfolding column
+column-clauses l r c last n =
+    let inputs : List Bit = l ∷ r ∷ c ∷ [] in
+    let s : Made = sum (fixed-sum inputs) (literals inputs) n in
+    let t : Made = carry-unless last (fixed-sum inputs) (literals inputs) (s .next) in
+    let a = sum-clauses (fixed-sum inputs) n (literals inputs) (omega (arith, inputs-few inputs)) in
+    let b = carry-clauses last (fixed-sum inputs) (s .next) (literals inputs) in
+    (omega (arith, length-append (s .clauses) (t .clauses), a .0, b .0), omega (arith, words-of-both (s .clauses) (t .clauses), a .1, b .1))
+
+-- ---- a line and a recipe: whatever is counted of clauses, if a column has at most `most` of it
+
+-- every coefficient has at most L bits
+abbrev Small : ℕ → List Line → Type 0
+Small L [] = Unit {0}
+Small L (l ∷ ls) = (l .coefficient < 2 ^ L) × Small L ls
+
+small-from : (recipe : List ℕ) (L n i : ℕ) → ((j : ℕ) → j < i + n → bit-length (line-at recipe j .coefficient) ≤ L) → Small L (lines-from recipe i n)
+unfolding lines-from
+small-from recipe L zero i h = tt
+small-from recipe L (suc n) i h = (lt-bits L (line-at recipe i .coefficient) (h i (omega arith)), small-from recipe L n (suc i) (λ j k. h j (omega arith)))
+
+module _ (size : List Clause → ℕ) (most : ℕ) (none : size [] ≡ 0) (append : (cs ds : List Clause) → size (cs ++ ds) ≡ size cs + size ds)
+    (column-size : (l r c : Bit) (last : Bool) (n : ℕ) → size (column l r c last n .clauses) ≤ most) where
+  adder-size : (ls rs : List Bit) (c : Bit) (n : ℕ) → size (adder ls rs c n .clauses) ≤ most * length ls
+  unfolding adder
+  adder-size [] rs c n = omega (arith, none)
+  adder-size (l ∷ ls) [] c n = omega (arith, none)
+  adder-size (l ∷ ls) (r ∷ rs) c n =
+      let k = column l r c (none-left ls) n in
+      let s = adder ls rs (k .carry-bit) (k .next) in
+      omega (arith, append (k .clauses) (s .clauses), column-size l r c (none-left ls) n, adder-size ls rs (k .carry-bit) (k .next), mul-suc most (length ls))
+
+  line-size : (d : Kind) (m s : ℕ) (l r : List Bit) (n : ℕ) → size (line-sum d m l s r n .clauses) ≤ most * m
+  unfolding line-sum
+  line-size splus m s l r n = subst (λ (k : ℕ). size (line-sum splus m l s r n .clauses) ≤ most * k) (length-fitted m (shifted s l)) (adder-size _ _ _ n)
+  line-size sminus m s l r n = subst (λ (k : ℕ). size (line-sum sminus m l s r n .clauses) ≤ most * k) (length-fitted m (shifted s l)) (adder-size _ _ _ n)
+  line-size minuss m s l r n = subst (λ (k : ℕ). size (line-sum minuss m l s r n .clauses) ≤ most * k) (length-fitted m l) (adder-size _ _ _ n)
+
+  recipe-size : (w L : ℕ) (ls : List Line) (operands : List (List Bit)) (n : ℕ) → Small L ls → size (encoded (columns w) ls operands n .clauses) ≤ most * (L + w) * length ls
+  unfolding encoded line-encoded
+  recipe-size w L [] operands n h = omega (arith, none)
+  recipe-size w L (l ∷ ls) operands n h =
+      let s = line-encoded (columns w) l operands n in
+      let u = encoded (columns w) ls (operands ++ (s .bits ∷ [])) (s .next) in
+      omega (
+        arith,
+        append (s .clauses) (u .clauses),
+        recipe-size w L ls (operands ++ (s .bits ∷ [])) (s .next) (h .1),
+        line-size (kind-of (l .kind)) (columns w (l .coefficient)) (l .shift) (getD operands (l .left) []) (getD operands (l .right) []) n,
+        mul-le-mul-left most (columns-le w (l .coefficient) L (h .0)),
+        mul-suc (most * (L + w)) (length ls),
+      )
+
+  -- document 01's call
+  product-size : (c w : ℕ) (recipe : List ℕ) (L : ℕ) → ((i : ℕ) → i < length recipe / 5 → bit-length (line-at recipe i .coefficient) ≤ L)
+      → size (product-of c w recipe .clauses) ≤ most * (L + w) * (length recipe / 5)
+  unfolding product-of product
+  product-size c w recipe L h =
+      let n = length recipe / 5 in
+      let small : Small L (lines-of recipe) = small-from recipe L n 0 (λ j k. h j (omega arith)) in
+      omega (
+        arith,
+        recipe-size (length (variables 1 w)) L (lines-of recipe) (variables 1 w ∷ []) (suc w) small,
+        ap (λ (v : ℕ). most * (L + v) * length (lines-of recipe)) (length-variables 1 w),
+        ap (λ (m : ℕ). most * (L + w) * m) (length-lines recipe 0 n),
+      )
+
+-- the clause bound of demand 3
+pub few-clauses : (c w : ℕ) (recipe : List ℕ) (L : ℕ) → ((i : ℕ) → i < length recipe / 5 → bit-length (line-at recipe i .coefficient) ≤ L)
+    → length (product-of c w recipe .clauses) ≤ 14 * (L + w) * (length recipe / 5)
+few-clauses = product-size length 14 refl length-append (λ l r c last n. column-clauses l r c last n .0)
+
+pub few-words : (c w : ℕ) (recipe : List ℕ) (L : ℕ) → ((i : ℕ) → i < length recipe / 5 → bit-length (line-at recipe i .coefficient) ≤ L)
+    → length (clause-words (product-of c w recipe)) ≤ 64 * (L + w) * (length recipe / 5)
+few-words = product-size (λ (cs : List Clause). length (words cs)) 64 refl words-of-both (λ l r c last n. column-clauses l r c last n .1)

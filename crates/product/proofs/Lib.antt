@@ -1,0 +1,16 @@
+pub mod Cases
+pub mod At
+pub mod Lengths
+pub mod BitLengths
+pub mod Bounds
+pub mod ShapeMeans
+pub mod ColumnMeans
+pub mod AdderMeans
+pub mod LineMeans
+pub mod RecipeMeans
+pub mod ProductMeans
+pub mod WordsMean
+pub mod AcceptedMeans
+pub mod Success
+pub mod Demands
+pub mod Instances

@@ -1,0 +1,184 @@
+-- What a line means: its bits read as its coefficient times x, mod 2^m, where its operands' bits read as theirs.
+--
+-- All is mod 2^m, where dropping bits at m and above changes nothing. SPLUS adds A + B; the other two add A + (2^m - 1 - B) + 1.
+-- The minus kinds are told as sums (k + r = 2^s * l), so nothing is subtracted.
+use Prim.Native.Nat.{ℕ, zero, suc, _+_, _*_, _%_, _^_, _<_}
+use mathlib.Core.Path.{_≡_, refl, sym, ap, _∙_}
+use mathlib.Core.Bool.{Bool, true, false, not}
+use mathlib.Core.List.{List, [], _∷_, map}
+use native.Mathlib.Nat.{le-refl, pow-suc}
+use native.Mathlib.Omega.{arith}
+use lib.Arith.{digits-mod}
+use lib.IntN.{pos}
+use lib.ListN.{length, length-map}
+use Rattle.line.specs.Line.{Kind, splus, sminus, minuss, gives}
+use Rattle.line.proofs.Value.{sums-of-gives}
+use Rattle.cnf.specs.Clause.{Assignment, value, satisfies}
+use Rattle.cnf.proofs.Extend.{Extends, Fresh}
+use Rattle.product.specs.Bit.{Bit, fixed, unfixed, flip, bit-value, num, reads}
+use Rattle.product.specs.Lines.{adder, shifted, fitted, line-sum}
+use Rattle.product.proofs.Lengths.{length-fitted}
+use Rattle.product.proofs.ShapeMeans.{flips-not}
+use Rattle.product.specs.Demand.{Bit-below, Bits-below}
+use Rattle.product.proofs.ColumnMeans.{bit-number, num-le}
+use Rattle.product.proofs.AdderMeans.{twice, Adds, adder-adds}
+
+-- ---- equal up to multiples of 2 ^ m
+
+abbrev pub Congruent : ℕ → ℕ → ℕ → Type 0
+Congruent m a b = (p : ℕ) × (q : ℕ) × (a + 2 ^ m * p ≡ b + 2 ^ m * q)
+
+pub congruent-of-eq : (m : ℕ) {a b : ℕ} → a ≡ b → Congruent m a b
+congruent-of-eq m e = (0, 0, omega arith)
+
+congruent-trans : (m a b c : ℕ) → Congruent m a b → Congruent m b c → Congruent m a c
+congruent-trans m a b c h k = (h .0 + k .0, h .1 + k .1, omega (arith, h .2, k .2))
+
+congruent-add : (m a b c d : ℕ) → Congruent m a b → Congruent m c d → Congruent m (a + c) (b + d)
+congruent-add m a b c d h k = (h .0 + k .0, h .1 + k .1, omega (arith, h .2, k .2))
+
+congruent-cancel : (m a b c d : ℕ) → Congruent m (a + c) (b + d) → Congruent m c d → Congruent m a b
+congruent-cancel m a b c d h k = (h .0 + k .1, h .1 + k .0, omega (arith, h .2, k .2))
+
+congruent-mul : (m k a b : ℕ) → Congruent m a b → Congruent m (k * a) (k * b)
+congruent-mul m k a b h = (k * h .0, k * h .1, omega (arith, ap (λ (n : ℕ). k * n) (h .2)))
+
+pub eq-of-congruent : (m a b : ℕ) → a < 2 ^ m → b < 2 ^ m → Congruent m a b → a ≡ b
+eq-of-congruent m a b la lb h = sym (digits-mod (h .0) la) ∙ ap (λ (n : ℕ). n % 2 ^ m) (omega (arith, h .2)) ∙ digits-mod (h .1) lb
+
+-- ---- shifting, fitting, negating
+
+pub reads-shifted : (α : Assignment) (s : ℕ) (bs : List Bit) → reads α (shifted s bs) ≡ 2 ^ s * reads α bs
+unfolding shifted
+reads-shifted α zero bs = omega arith
+reads-shifted α (suc s) bs = omega (arith, reads-shifted α s bs, twice s (reads α bs))
+
+reads-fitted : (α : Assignment) (m : ℕ) (bs : List Bit) → (j : ℕ) × (reads α bs ≡ reads α (fitted m bs) + 2 ^ m * j)
+unfolding fitted
+reads-fitted α zero bs = (reads α bs, omega arith)
+reads-fitted α (suc m) [] = (0, omega (arith, reads-fitted α m [] .1))
+reads-fitted α (suc m) (b ∷ bs) = (reads-fitted α m bs .0, omega (arith, reads-fitted α m bs .1, twice m (reads-fitted α m bs .0)))
+
+flip-number : (α : Assignment) (b : Bit) → bit-number α (flip b) + bit-number α b ≡ 1
+flip-number α (fixed true) = refl
+flip-number α (fixed false) = refl
+flip-number α (unfixed l) = ap (λ (b : Bool). num b + num (value α l)) (flips-not (l .negated) (α (l .variable))) ∙ go (value α l)
+  where
+    go : (b : Bool) → num (not b) + num b ≡ 1
+    go true = refl
+    go false = refl
+
+reads-flip : (α : Assignment) (bs : List Bit) → reads α (map flip bs) + reads α bs + 1 ≡ 2 ^ length bs
+reads-flip α [] = refl
+reads-flip α (b ∷ bs) = omega (arith, reads-flip α bs, flip-number α b, pow-suc 2 (length bs))
+
+pub reads-lt : (α : Assignment) (bs : List Bit) → reads α bs < 2 ^ length bs
+reads-lt α [] = le-refl 1
+reads-lt α (b ∷ bs) = omega (arith, reads-lt α bs, num-le (bit-value α b), pow-suc 2 (length bs))
+
+fitted-congruent : (α : Assignment) (m : ℕ) (bs : List Bit) → Congruent m (reads α (fitted m bs)) (reads α bs)
+fitted-congruent α m bs = (reads-fitted α m bs .0, 0, omega (arith, reads-fitted α m bs .1))
+
+-- the shifted, fitted operand
+term-congruent : (α : Assignment) (m s : ℕ) (bs : List Bit) (v : ℕ) → Congruent m (reads α bs) v → Congruent m (reads α (fitted m (shifted s bs))) (2 ^ s * v)
+term-congruent α m s bs v h =
+    congruent-trans m (reads α (fitted m (shifted s bs))) (reads α (shifted s bs)) (2 ^ s * v) (fitted-congruent α m (shifted s bs))
+    (congruent-trans m (reads α (shifted s bs)) (2 ^ s * reads α bs) (2 ^ s * v) (congruent-of-eq m (reads-shifted α s bs)) (congruent-mul m (2 ^ s) (reads α bs) v h))
+
+sum-congruent : (m S A B u v t : ℕ) → Congruent m S (A + B) → Congruent m A u → Congruent m B v → t ≡ u + v → Congruent m S t
+sum-congruent m S A B u v t h ha hb e = congruent-trans m S (A + B) t h (congruent-trans m (A + B) (u + v) t (congruent-add m A u B v ha hb) (congruent-of-eq m (sym e)))
+
+difference-congruent : (m S A B u v t : ℕ) → Congruent m (S + B) A → Congruent m A u → Congruent m B v → t + v ≡ u → Congruent m S t
+difference-congruent m S A B u v t h ha hb e =
+    congruent-cancel m S t B v (congruent-trans m (S + B) A (t + v) h (congruent-trans m A u (t + v) ha (congruent-of-eq m (sym e)))) hb
+
+module _ (Used : ℕ → Type 0) where
+  pub shifted-below : (n s : ℕ) (bs : List Bit) → Bits-below Used n bs → Bits-below Used n (shifted s bs)
+  unfolding shifted
+  shifted-below n zero bs i = i
+  shifted-below n (suc s) bs i = (tt, shifted-below n s bs i)
+
+  fitted-below : (n m : ℕ) (bs : List Bit) → Bits-below Used n bs → Bits-below Used n (fitted m bs)
+  unfolding fitted
+  fitted-below n zero bs i = tt
+  fitted-below n (suc m) [] i = (tt, fitted-below n m [] i)
+  fitted-below n (suc m) (b ∷ bs) i = (i .0, fitted-below n m bs (i .1))
+
+  flip-below : (n : ℕ) (b : Bit) → Bit-below Used n b → Bit-below Used n (flip b)
+  flip-below n (fixed b) i = tt
+  flip-below n (unfixed l) i = i
+
+  flips-below : (n : ℕ) (bs : List Bit) → Bits-below Used n bs → Bits-below Used n (map flip bs)
+  flips-below n [] i = tt
+  flips-below n (b ∷ bs) i = (flip-below n b (i .0), flips-below n bs (i .1))
+
+  -- ---- a line
+
+  -- from operands that are l and r times x, mod 2^m, to bits that are k times x, for the k that the kind gives
+  pub record Line-multiplies (d : Kind) (m s : ℕ) (L R : List Bit) (n : ℕ) : Type 0 where
+    pub value : (α : Assignment) → satisfies α (line-sum d m L s R n .clauses) ≡ true → (l r k x : ℕ) → pos k ≡ gives d l s r
+        → Congruent m (reads α L) (l * x) → Congruent m (reads α R) (r * x) → Congruent m (reads α (line-sum d m L s R n .bits)) (k * x)
+    pub extends : Extends Used n (line-sum d m L s R n .next) (line-sum d m L s R n .clauses)
+    pub below : Bits-below Used (line-sum d m L s R n .next) (line-sum d m L s R n .bits)
+
+  -- two operands of m columns added, and one taken from the other
+  module _ (m n : ℕ) (fresh : Fresh Used n) (A B : List Bit) (la : length A ≡ m) (lb : length B ≡ m) (ia : Bits-below Used n A) (ib : Bits-below Used n B) where
+    plus : Adds Used A B (fixed false) n (adder A B (fixed false) n)
+    plus = adder-adds Used A B (fixed false) n (la ∙ sym lb) fresh ia ib tt
+
+    plus-congruent : (α : Assignment) → satisfies α (adder A B (fixed false) n .clauses) ≡ true → Congruent m (reads α (adder A B (fixed false) n .bits)) (reads α A + reads α B)
+    plus-congruent α h =
+        let k = plus .adds α h in
+        (k .0, 0, omega (arith, k .1, ap (λ (i : ℕ). 2 ^ i * k .0) la))
+
+    minus : Adds Used A (map flip B) (fixed true) n (adder A (map flip B) (fixed true) n)
+    minus = adder-adds Used A (map flip B) (fixed true) n (la ∙ sym (length-map B flip ∙ lb)) fresh ia (flips-below n B ib) tt
+
+    minus-congruent : (α : Assignment) → satisfies α (adder A (map flip B) (fixed true) n .clauses) ≡ true
+        → Congruent m (reads α (adder A (map flip B) (fixed true) n .bits) + reads α B) (reads α A)
+    minus-congruent α h =
+        let k = minus .adds α h in
+        (k .0, 1, omega (arith, k .1, ap (λ (i : ℕ). 2 ^ i * k .0) la, reads-flip α B, ap (λ (i : ℕ). 2 ^ i) lb))
+
+  module _ (m s n : ℕ) (fresh : Fresh Used n) (L R : List Bit) (il : Bits-below Used n L) (ir : Bits-below Used n R) where
+    pub line-multiplies : (d : Kind) → Line-multiplies d m s L R n
+    unfolding line-sum adder
+    line-multiplies splus =
+        let A = fitted m (shifted s L) in
+        let B = fitted m R in
+        let r = plus m n fresh A B (length-fitted m _) (length-fitted m _) (fitted-below n m _ (shifted-below n s L il)) (fitted-below n m R ir) in
+        record {
+          extends = r .extends;
+          below = r .below;
+          value = λ α h l r k x g cl cr.
+              sum-congruent m (reads α (adder A B (fixed false) n .bits)) (reads α A) (reads α B) (2 ^ s * (l * x)) (r * x) (k * x)
+              (plus-congruent m n fresh A B (length-fitted m _) (length-fitted m _) (fitted-below n m _ (shifted-below n s L il)) (fitted-below n m R ir) α h)
+              (term-congruent α m s L (l * x) cl) (congruent-trans m (reads α B) (reads α R) (r * x) (fitted-congruent α m R) cr)
+              (omega (arith, ap (λ (i : ℕ). i * x) (sums-of-gives splus l s r k g)));
+        }
+    line-multiplies sminus =
+        let A = fitted m (shifted s L) in
+        let B = fitted m R in
+        let r = minus m n fresh A B (length-fitted m _) (length-fitted m _) (fitted-below n m _ (shifted-below n s L il)) (fitted-below n m R ir) in
+        record {
+          extends = r .extends;
+          below = r .below;
+          value = λ α h l r k x g cl cr.
+              difference-congruent m (reads α (adder A (map flip B) (fixed true) n .bits)) (reads α A) (reads α B) (2 ^ s * (l * x)) (r * x) (k * x)
+              (minus-congruent m n fresh A B (length-fitted m _) (length-fitted m _) (fitted-below n m _ (shifted-below n s L il)) (fitted-below n m R ir) α h)
+              (term-congruent α m s L (l * x) cl) (congruent-trans m (reads α B) (reads α R) (r * x) (fitted-congruent α m R) cr)
+              (omega (arith, ap (λ (i : ℕ). i * x) (sums-of-gives sminus l s r k g)));
+        }
+    line-multiplies minuss =
+        let A = fitted m L in
+        let B = fitted m (shifted s R) in
+        let r = minus m n fresh A B (length-fitted m _) (length-fitted m _) (fitted-below n m L il) (fitted-below n m _ (shifted-below n s R ir)) in
+        record {
+          extends = r .extends;
+          below = r .below;
+          value = λ α h l r k x g cl cr.
+              difference-congruent m (reads α (adder A (map flip B) (fixed true) n .bits)) (reads α A) (reads α B) (l * x) (2 ^ s * (r * x)) (k * x)
+              (minus-congruent m n fresh A B (length-fitted m _) (length-fitted m _) (fitted-below n m L il) (fitted-below n m _ (shifted-below n s R ir)) α h)
+              (congruent-trans m (reads α A) (reads α L) (l * x) (fitted-congruent α m L) cl) (term-congruent α m s R (r * x) cr)
+              (omega (arith, ap (λ (i : ℕ). i * x) (sums-of-gives minuss l s r k g)));
+        }

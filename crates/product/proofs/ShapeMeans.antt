@@ -1,0 +1,122 @@
+-- The five shapes of clauses: parity of two and of three literals, both, either, most. Each holds exactly when its own literal has the
+-- value of its function of the other literals' values: odd, or at least two, of the fixed inputs and the true literals. The laws go by
+-- the values of the literals, so they stand also where two inputs name one variable.
+use Prim.Native.Nat.{ℕ, suc}
+use mathlib.Core.Path.{_≡_, refl, ap, ap₂, _∙_}
+use mathlib.Core.Bool.{Bool, true, false, not, _&&_, _||_, Bool·beq}
+use mathlib.Core.List.{List, [], _∷_, map}
+use Rattle.cnf.specs.Clause.{Literal, Clause, Assignment, flips, negation, value, holds, satisfies}
+use Rattle.cnf.proofs.Extend.{satisfies-append}
+use Rattle.product.specs.Column.{odd, at-least-two, parity, both, either, most}
+
+-- ---- how many inputs are 1
+
+abbrev pub up : Bool → ℕ → ℕ
+up true n = suc n
+up false n = n
+
+-- f, and one more for each literal that is true
+abbrev pub total : Assignment → ℕ → List Literal → ℕ
+total α f [] = f
+total α f (p ∷ ps) = total α (up (value α p) f) ps
+
+-- ---- the sum
+
+pub flips-not : (s b : Bool) → flips (not s) b ≡ not (flips s b)
+flips-not true true = refl
+flips-not true false = refl
+flips-not false b = refl
+
+pub flips-flips : (o s b : Bool) → flips (flips o s) b ≡ flips o (flips s b)
+flips-flips true s b = flips-not s b
+flips-flips false s b = refl
+
+satisfies-map : (α : Assignment) (l : Literal) (cs : List Clause) → satisfies α (map (λ (c : Clause). l ∷ c) cs) ≡ value α l || satisfies α cs
+satisfies-map α l [] = go (value α l)
+  where
+    go : (a : Bool) → true ≡ a || true
+    go true = refl
+    go false = refl
+satisfies-map α l (c ∷ cs) = ap (λ (b : Bool). (value α l || holds α c) && b) (satisfies-map α l cs) ∙ go (value α l) (holds α c) (satisfies α cs)
+  where
+    go : (a h s : Bool) → (a || h) && (a || s) ≡ a || (h && s)
+    go true h s = refl
+    go false h s = refl
+
+pub parity-law : (α : Assignment) (f : ℕ) (ps : List Literal) (z : ℕ) → satisfies α (parity ps (odd f) z) ≡ Bool·beq (α z) (odd (total α f ps))
+unfolding parity
+parity-law α f [] z = go (odd f) (α z)
+  where
+    go : (o t : Bool) → (flips (flips (not o) false) t || false) && true ≡ Bool·beq t o
+    go true true = refl
+    go true false = refl
+    go false true = refl
+    go false false = refl
+parity-law α f (p ∷ ps) z =
+    satisfies-append α (map (λ (c : Clause). p ∷ c) (parity ps (odd f) z)) (map (λ (c : Clause). negation p ∷ c) (parity ps (not (odd f)) z))
+    ∙ ap₂ _&&_ (satisfies-map α p (parity ps (odd f) z)) (satisfies-map α (negation p) (parity ps (not (odd f)) z))
+    ∙ ap₂ _&&_
+    (ap (λ (b : Bool). value α p || b) (parity-law α f ps z))
+    (ap₂ _||_ (flips-not (p .negated) (α (p .variable))) (parity-law α (suc f) ps z))
+    ∙ go (value α p)
+  where
+    go : (a : Bool) → (a || Bool·beq (α z) (odd (total α f ps))) && (not a || Bool·beq (α z) (odd (total α (suc f) ps))) ≡ Bool·beq (α z) (odd (total α (up a f) ps))
+    go true = refl
+    go false = go₂ (Bool·beq (α z) (odd (total α f ps)))
+      where
+        go₂ : (b : Bool) → b && true ≡ b
+        go₂ true = refl
+        go₂ false = refl
+
+pub both-law : (α : Assignment) (p q t : Literal) → satisfies α (both p q t) ≡ Bool·beq (value α t) (at-least-two (total α 0 (p ∷ q ∷ [])))
+unfolding both
+both-law α p q t = simp flips-not (go (value α p) (value α q) (value α t))
+  where
+    go : (a b t : Bool) → (a || (not t || false)) && ((b || (not t || false)) && ((not a || (not b || (t || false))) && true)) ≡ Bool·beq t (at-least-two (up b (up a 0)))
+    go true true true = refl
+    go true true false = refl
+    go true false true = refl
+    go true false false = refl
+    go false true true = refl
+    go false true false = refl
+    go false false true = refl
+    go false false false = refl
+
+pub either-law : (α : Assignment) (p q t : Literal) → satisfies α (either p q t) ≡ Bool·beq (value α t) (at-least-two (total α 1 (p ∷ q ∷ [])))
+unfolding either
+either-law α p q t = simp flips-not (go (value α p) (value α q) (value α t))
+  where
+    go : (a b t : Bool) → (not a || (t || false)) && ((not b || (t || false)) && ((a || (b || (not t || false))) && true)) ≡ Bool·beq t (at-least-two (up b (up a 1)))
+    go true true true = refl
+    go true true false = refl
+    go true false true = refl
+    go true false false = refl
+    go false true true = refl
+    go false true false = refl
+    go false false true = refl
+    go false false false = refl
+
+pub most-law : (α : Assignment) (p q r t : Literal) → satisfies α (most p q r t) ≡ Bool·beq (value α t) (at-least-two (total α 0 (p ∷ q ∷ r ∷ [])))
+unfolding most
+most-law α p q r t = simp flips-not (go (value α p) (value α q) (value α r) (value α t))
+  where
+    go : (a b c t : Bool)
+        → (a || (b || (not t || false))) && ((a || (c || (not t || false))) && ((b || (c || (not t || false)))
+        && ((not a || (not b || (t || false))) && ((not a || (not c || (t || false))) && ((not b || (not c || (t || false))) && true)))))
+        ≡ Bool·beq t (at-least-two (up c (up b (up a 0))))
+    go true true true true = refl
+    go true true true false = refl
+    go true true false true = refl
+    go true true false false = refl
+    go true false true true = refl
+    go true false true false = refl
+    go true false false true = refl
+    go true false false false = refl
+    go false true true true = refl
+    go false true true false = refl
+    go false true false true = refl
+    go false true false false = refl
+    go false false true true = refl
+    go false false true false = refl
+    go false false false true = refl
+    go false false false false = refl

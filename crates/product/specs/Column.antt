@@ -1,0 +1,103 @@
+-- A column: the only place that opens a variable or makes a clause (document 01, "From line to clauses").
+use Prim.Native.Nat.{ℕ, zero, suc}
+use mathlib.Core.Bool.{Bool, true, false, not}
+use mathlib.Core.List.{List, [], _∷_, _++_, map}
+use Rattle.cnf.specs.Clause.{Literal, Clause, signed, negation, new}
+use Rattle.product.specs.Bit.{Bit, fixed, unfixed}
+
+-- ---- the inputs
+
+-- f: the sum of the fixed inputs
+abbrev pub fixed-sum : List Bit → ℕ
+fixed-sum [] = 0
+fixed-sum (fixed true ∷ bs) = suc (fixed-sum bs)
+fixed-sum (fixed false ∷ bs) = fixed-sum bs
+fixed-sum (unfixed l ∷ bs) = fixed-sum bs
+
+abbrev pub literals : List Bit → List Literal
+literals [] = []
+literals (fixed b ∷ bs) = literals bs
+literals (unfixed l ∷ bs) = l ∷ literals bs
+
+abbrev pub odd : ℕ → Bool
+odd zero = false
+odd (suc n) = not (odd n)
+
+abbrev pub at-least-two : ℕ → Bool
+at-least-two zero = false
+at-least-two (suc zero) = false
+at-least-two (suc (suc n)) = true
+
+-- a bit, the clauses that tie it to the inputs, and the next free variable
+pub record Made : Type 0 where
+  pub bit : Bit
+  pub clauses : List Clause
+  pub next : ℕ
+
+-- a bit that needs no variable, and one that is the variable n
+abbrev pub plain : Bit → ℕ → Made
+plain b n = record { bit = b; clauses = []; next = n }
+
+abbrev pub opened : ℕ → List Clause → Made
+opened n cs = record { bit = unfixed (new n); clauses = cs; next = suc n }
+
+-- ---- the sum
+
+-- z equals the parity of the inputs and o: over all input values counted up from zero, first input most significant, each input's
+-- literal, negated where its value is 1, then z or its negation as the parity demands
+unfoldable pub parity : List Literal → Bool → ℕ → List Clause
+parity [] o z = (signed (not o) (new z) ∷ []) ∷ []
+parity (p ∷ ps) o z = map (λ (c : Clause). p ∷ c) (parity ps o z) ++ map (λ (c : Clause). negation p ∷ c) (parity ps (not o) z)
+
+unfoldable pub sum : ℕ → List Literal → ℕ → Made
+sum f [] n = plain (fixed (odd f)) n
+sum f (p ∷ []) n = plain (unfixed (signed (odd f) p)) n
+sum f (p ∷ q ∷ ps) n = opened n (parity (p ∷ q ∷ ps) (odd f) n)
+
+-- ---- the carry
+
+unfoldable pub both : Literal → Literal → Literal → List Clause
+both p q t = (p ∷ negation t ∷ []) ∷ (q ∷ negation t ∷ []) ∷ (negation p ∷ negation q ∷ t ∷ []) ∷ []
+
+unfoldable pub either : Literal → Literal → Literal → List Clause
+either p q t = (negation p ∷ t ∷ []) ∷ (negation q ∷ t ∷ []) ∷ (p ∷ q ∷ negation t ∷ []) ∷ []
+
+unfoldable pub most : Literal → Literal → Literal → Literal → List Clause
+most p q r t =
+    (p ∷ q ∷ negation t ∷ [])
+    ∷ (p ∷ r ∷ negation t ∷ [])
+    ∷ (q ∷ r ∷ negation t ∷ [])
+    ∷ (negation p ∷ negation q ∷ t ∷ [])
+    ∷ (negation p ∷ negation r ∷ t ∷ [])
+    ∷ (negation q ∷ negation r ∷ t ∷ [])
+    ∷ []
+
+unfoldable pub carry : ℕ → List Literal → ℕ → Made
+carry f [] n = plain (fixed (at-least-two f)) n
+carry zero (p ∷ []) n = plain (fixed false) n
+carry (suc zero) (p ∷ []) n = plain (unfixed p) n
+carry (suc (suc f)) (p ∷ []) n = plain (fixed true) n
+carry zero (p ∷ q ∷ []) n = opened n (both p q (new n))
+carry (suc f) (p ∷ q ∷ []) n = opened n (either p q (new n))
+carry f (p ∷ q ∷ r ∷ ps) n = opened n (most p q r (new n))
+
+-- the last column has no carry
+unfoldable pub carry-unless : Bool → ℕ → List Literal → ℕ → Made
+carry-unless true f ps n = plain (fixed false) n
+carry-unless false f ps n = carry f ps n
+
+-- ---- the column: sum before carry
+
+pub record Column : Type 0 where
+  pub sum-bit : Bit
+  pub carry-bit : Bit
+  pub clauses : List Clause
+  pub next : ℕ
+
+-- the inputs in the order left term, right term, carry; whether the column is the last; the next free variable
+unfoldable pub column : Bit → Bit → Bit → Bool → ℕ → Column
+column left right over last n =
+    let inputs : List Bit = left ∷ right ∷ over ∷ [] in
+    let s : Made = sum (fixed-sum inputs) (literals inputs) n in
+    let t : Made = carry-unless last (fixed-sum inputs) (literals inputs) (s .next) in
+    record { sum-bit = s .bit; carry-bit = t .bit; clauses = s .clauses ++ t .clauses; next = t .next }

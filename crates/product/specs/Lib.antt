@@ -1,0 +1,6 @@
+pub mod Bit
+pub mod Column
+pub mod Lines
+pub mod Product
+pub mod Write
+pub mod Demand

@@ -1,0 +1,96 @@
+-- Writing: from a constant, a width, a recipe and two rooms to the answer and the rooms at exit.
+use Prim.Native.Nat.{ℕ, _-_, _*_, _^_}
+use mathlib.Core.Bool.{Bool, cond, _||_}
+use mathlib.Core.List.{List}
+use lib.Dec.{eqb, ltb}
+use lib.IntN.{ℤ}
+use lib.ListN.{length}
+use Rattle.line.specs.Number.{bit-length, odd-part}
+use Rattle.line.specs.Refusal.{refusal-number}
+use Rattle.line.specs.Room.{over}
+use Rattle.line.specs.declared.Refusal.the-variants.{Constant, Width, BitRoom, ClauseRoom}
+use Rattle.recipe.specs.Check.{out-of-range, recipe-checked}
+use Rattle.recipe.specs.declared.Checked.{Checked}
+use Rattle.recipe.specs.declared.Checked.the-variants as check
+use Rattle.product.specs.Product.{Product, product-of, y-entries, clause-words}
+use Rattle.product.specs.declared.Counts.{Counts}
+use Rattle.product.specs.declared.Written.{Written}
+use Rattle.product.specs.declared.Written.the-variants.{Clauses, Refused}
+
+-- ---- document 01's number of an answer, 0 for success, and its counts, zero in a refusal
+
+abbrev pub written-number : Written → ℕ
+written-number (Clauses words clauses highest bits) = 0
+written-number (Refused x) = refusal-number x
+
+abbrev pub words-used : Written → ℕ
+words-used (Clauses words clauses highest bits) = words
+words-used (Refused x) = 0
+
+abbrev pub clauses-written : Written → ℕ
+clauses-written (Clauses words clauses highest bits) = clauses
+clauses-written (Refused x) = 0
+
+abbrev pub highest-variable : Written → ℕ
+highest-variable (Clauses words clauses highest bits) = highest
+highest-variable (Refused x) = 0
+
+abbrev pub bits-of-y : Written → ℕ
+bits-of-y (Clauses words clauses highest bits) = bits
+bits-of-y (Refused x) = 0
+
+-- the four together
+abbrev pub counts-of : Written → Counts
+counts-of a = record { words = words-used a; clauses = clauses-written a; highest = highest-variable a; bits = bits-of-y a }
+
+-- ---- the answer
+
+-- whether rule 2 refuses w
+abbrev pub not-a-width : ℕ → Bool
+not-a-width w = eqb w 0 || ltb 16 w
+
+-- the check's refusal, or what comes behind its acceptance
+abbrev pub if-accepted : Checked → Written → Written
+if-accepted check.Accepted later = later
+if-accepted (check.Refused x) later = Refused x
+
+-- the bits of y
+abbrev pub y-length : ℕ → ℕ → ℕ
+y-length c w = bit-length (c * (2 ^ w - 1))
+
+abbrev pub clauses-of-product : Product → ℕ → Written
+clauses-of-product p bits = Clauses (length (clause-words p)) (length (p .clauses)) (p .next - 1) bits
+
+-- tests 9 and 10; y is the number of y's bits, bits and clauses are the rooms' lengths
+abbrev pub room-answer : Product → ℕ → ℕ → ℕ → Written
+room-answer p y bits clauses =
+    cond (ltb bits y) (Refused BitRoom)
+    (cond (ltb clauses (length (clause-words p))) (Refused ClauseRoom)
+    (clauses-of-product p y))
+
+unfoldable pub write-answer : ℕ → ℕ → List ℕ → ℕ → ℕ → Written
+write-answer c w recipe bits clauses =
+    cond (out-of-range c) (Refused Constant)
+    (cond (not-a-width w) (Refused Width)
+    (if-accepted (recipe-checked (odd-part c) recipe) (room-answer (product-of c w recipe) (y-length c w) bits clauses)))
+
+-- ---- the rooms at exit
+
+pub record Outcome : Type 0 where
+  pub answer : Written
+  pub bits : List ℤ
+  pub clauses : List ℤ
+
+-- a refusal leaves both rooms as they came
+abbrev pub write-by : Written → Product → List ℤ → List ℤ → Outcome
+write-by (Clauses words clauses highest bits) p bit-room clause-room =
+    record { answer = Clauses words clauses highest bits; bits = over (y-entries p) bit-room; clauses = over (clause-words p) clause-room }
+write-by (Refused x) p bit-room clause-room = record { answer = Refused x; bits = bit-room; clauses = clause-room }
+
+-- behind the check: a product whose y has the given number of bits
+abbrev pub product-written : Product → ℕ → List ℤ → List ℤ → Outcome
+product-written p y bit-room clause-room = write-by (room-answer p y (length bit-room) (length clause-room)) p bit-room clause-room
+
+unfoldable pub written : ℕ → ℕ → List ℕ → List ℤ → List ℤ → Outcome
+written c w recipe bit-room clause-room =
+    write-by (write-answer c w recipe (length bit-room) (length clause-room)) (product-of c w recipe) bit-room clause-room

@@ -1,0 +1,65 @@
+// The product of x and a constant as clauses: what writing answers.
+
+ghost use mathlib.Core.Path.{_≡_};
+ghost use Prim.Native.Nat.{_≤_};
+ghost use Rattle.product.specs.Write.{written-number, counts-of};
+use line::Refusal;
+
+pub enum Written {
+    Clauses {
+        words: usize,
+        clauses: usize,
+        highest: u32,
+        bits: usize,
+    },
+    Refused(Refusal),
+}
+
+pub struct Counts {
+    pub words: usize,
+    pub clauses: usize,
+    pub highest: u32,
+    pub bits: usize,
+}
+
+impl Written {
+    // Document 01's number, 0 for success.
+    pub fn number(self) -> u64
+        ensures { λ r. ⌜ (r ≡ written-number self) × (r ≤ 13) ⌝ }
+    {
+        match self {
+            Written::Clauses {
+                words: _,
+                clauses: _,
+                highest: _,
+                bits: _,
+            } => 0,
+            Written::Refused(x) => x.number(),
+        }
+    }
+
+    // Words used, clauses, highest variable and bits of y; all zero in a refusal.
+    pub fn counts(self) -> Counts
+        ensures { λ r. ⌜ r ≡ counts-of self ⌝ }
+    {
+        match self {
+            Written::Clauses {
+                words,
+                clauses,
+                highest,
+                bits,
+            } => Counts {
+                words,
+                clauses,
+                highest,
+                bits,
+            },
+            Written::Refused(_) => Counts {
+                words: 0,
+                clauses: 0,
+                highest: 0,
+                bits: 0,
+            },
+        }
+    }
+}

@@ -1,0 +1,10 @@
+pub mod Codes
+pub mod CodeColumns
+pub mod Stores
+pub mod CodeWords
+pub mod Sums
+pub mod Tables
+pub mod CodeTerms
+pub mod CodeLines
+pub mod Passes
+pub mod Calls

@@ -1,0 +1,158 @@
+-- The loop over the columns of a sum: what holds after j columns, where it begins, and one column more.
+use Prim.Native.Nat.{ℕ, suc, _+_, _-_, _*_, _<_, _≤_}
+use mathlib.Core.Path.{_≡_, refl, sym, ap, ap₂, _∙_}
+use mathlib.Core.Bool.{Bool, false}
+use mathlib.Core.List.{List, [], _∷_, _++_, append-nil, append-assoc}
+use mathlib.Core.Logic.{⊎-elim}
+use native.Mathlib.Omega.{arith}
+use native.Mathlib.Nat.{eq-or-lt-of-le}
+use native.Mathlib.Numerals.{add-one}
+use lib.ListN.{length, getD, drop, set, length-set, length-append, length-map}
+use lib.Dec.{eqb}
+use lib.IntN.{ℤ}
+use lib.Seq.{sets}
+use borrow.Author.Tests.{eq-eqb, ne-eqb}
+use borrow.Rule.Slice.PartMut.{putMid, midOf}
+use Rattle.cnf.specs.Clause.{Clause}
+use Rattle.cnf.specs.Words.{words}
+use Rattle.cnf.proofs.Words.{words-append}
+use Rattle.product.specs.Bit.{Bit, fixed}
+use Rattle.product.specs.Column.{column}
+use Rattle.product.specs.Lines.{Sum, none-left, adder}
+use Rattle.write.specs.Code.{bit-of, bits-of}
+use Rattle.write.specs.Gate.{column-clauses, MatchesColumn}
+use Rattle.write.specs.Rooms.{ColumnWritten, SumIs}
+use Rattle.write.specs.declared.column.MadeColumn.{MadeColumn}
+use Rattle.write.specs.declared.lines.Place.{Place}
+use Rattle.product.proofs.At.{rest, rest-step, rest-end, last-column, not-last}
+use Rattle.write.proofs.Codes.{bits-append, bit-at}
+use Rattle.write.proofs.Stores.{sets-append, store-next, length-rest, length-put, lent}
+
+-- after j columns: the whole sum is what was made, and then the rest from column j on
+pub record Upto (whole : Sum) (xs ys : List Bit) (from : Place) (sums₀ : List ℕ) (room₀ : List ℤ) (sums : List ℕ) (room : List ℤ) (carry free used n j : ℕ) : Type 0 where
+  pub codes : List ℕ
+  pub made : List Clause
+  pub bits-are : whole .bits ≡ bits-of codes ++ rest xs ys j (bit-of carry) free .bits
+  pub clauses-are : whole .clauses ≡ made ++ rest xs ys j (bit-of carry) free .clauses
+  pub next-is : whole .next ≡ rest xs ys j (bit-of carry) free .next
+  pub used-is : used ≡ from .words + length (words made)
+  pub n-is : n ≡ from .clauses + length made
+  pub sums-are : sums ≡ sets sums₀ 0 codes
+  pub sums-long : length codes ≡ j
+  pub sums-same : length sums ≡ length sums₀
+  pub room-is : used ≤ length room₀ → room ≡ sets room₀ (from .words) (words made)
+  pub room-same : length room ≡ length room₀
+  pub free-pos : 0 < free
+  pub grows : from .next ≤ free
+  pub free-small : free ≤ from .next + 2 * j
+  pub used-small : used ≤ from .words + 80 * j
+  pub n-small : n ≤ from .clauses + 16 * j
+
+module _ (left right : List ℕ) (first m : ℕ) (from : Place) (sums₀ : List ℕ) (room₀ : List ℤ) (hl : length left ≡ m) (hr : length right ≡ m) where
+  abbrev whole : Sum
+  whole = adder (bits-of left) (bits-of right) (bit-of first) (from .next)
+
+  pub begin : 0 < from .next → Upto whole (bits-of left) (bits-of right) from sums₀ room₀ sums₀ room₀ first (from .next) (from .words) (from .clauses) 0
+  unfolding rest
+  begin h = record {
+    codes = [];
+    made = [];
+    bits-are = refl;
+    clauses-are = refl;
+    next-is = refl;
+    used-is = omega arith;
+    n-is = omega arith;
+    sums-are = refl;
+    sums-long = refl;
+    sums-same = refl;
+    room-is = λ h. refl;
+    room-same = refl;
+    free-pos = h;
+    grows = omega arith;
+    free-small = omega arith;
+    used-small = omega arith;
+    n-small = omega arith;
+  }
+
+  last-is : (j : ℕ) → j < m → none-left (drop (suc j) (bits-of left)) ≡ eqb (j + 1) m
+  last-is j h =
+      ⊎-elim
+      (λ (e : suc j ≡ m). last-column (bits-of left) (suc j) (omega (arith, length-map left bit-of)) ∙ sym (eq-eqb (j + 1) m (omega arith)))
+      (λ (l : suc j < m). not-last (bits-of left) (suc j) (omega (arith, length-map left bit-of)) ∙ sym (ne-eqb (j + 1) m (λ e. omega arith)))
+      (eq-or-lt-of-le {n = suc j} {m = m} h)
+
+  -- one column more, lent the rest of the room from `start` on
+  pub more : (sums : List ℕ) (room : List ℤ) (carry free used n j : ℕ) → j < m
+      → Upto whole (bits-of left) (bits-of right) from sums₀ room₀ sums room carry free used n j
+      → (c : MadeColumn) → MatchesColumn free c (column (bit-of (getD left j 0)) (bit-of (getD right j 0)) (bit-of carry) (eqb (j + 1) m) free)
+      → (start : ℕ) → start ≤ length room → (used ≤ length room → start ≡ used)
+      → (part : List ℤ) (r k : ℕ) → ColumnWritten c r (midOf start (length room - start) room) part
+      → length part ≡ length (midOf start (length room - start) room) → k ≡ length (column-clauses c) → k ≤ 16
+      → Upto whole (bits-of left) (bits-of right) from sums₀ room₀ (set sums j (c .sum)) (putMid start (length room - start) room part) (c .carry) (c .next) (used + r) (n + k) (j + 1)
+  more sums room carry free used n j h u c g start le is part r k y same-part q few =
+      let xs = bits-of left in
+      let ys = bits-of right in
+      let col = column (bit-of (getD left j 0)) (bit-of (getD right j 0)) (bit-of carry) (eqb (j + 1) m) free in
+      let e : column (getD xs j (fixed false)) (getD ys j (fixed false)) (bit-of carry) (none-left (drop (suc j) xs)) free ≡ col =
+      ap₂ (λ (a b : Bit). column a b (bit-of carry) (none-left (drop (suc j) xs)) free) (bit-at left j) (bit-at right j)
+      ∙ ap (λ (t : Bool). column (bit-of (getD left j 0)) (bit-of (getD right j 0)) (bit-of carry) t free) (last-is j h) in
+      let s = rest-step xs ys j (bit-of carry) free col (omega (arith, length-map left bit-of)) (omega (arith, length-map right bit-of)) e in
+      let R = rest xs ys (j + 1) (bit-of (c .carry)) (c .next) in
+      let same : rest xs ys (suc j) (col .carry-bit) (col .next) ≡ R =
+      ap₂ (λ (x : Bit) (y : ℕ). rest xs ys (suc j) x y) (sym (g .carry)) (sym (g .next)) ∙ ap (λ (i : ℕ). rest xs ys i (bit-of (c .carry)) (c .next)) (sym (add-one j)) in
+      let ws : words (column-clauses c) ≡ words (col .clauses) = ap (λ (x : List Clause). words x) (g .clauses) in
+      let wa = words-append (u .made) (col .clauses) in
+      let wl : length (words (u .made ++ col .clauses)) ≡ length (words (u .made)) + length (words (column-clauses c)) =
+      ap (λ (x : List ℤ). length x) wa ∙ (length-append (words (u .made)) (words (col .clauses)) ∙ ap (λ (x : List ℤ). length (words (u .made)) + length x) (sym ws)) in
+      record {
+        codes = u .codes ++ (c .sum ∷ []);
+        made = u .made ++ col .clauses;
+        bits-are =
+            u .bits-are
+            ∙ (ap (λ (b : List Bit). bits-of (u .codes) ++ b) (s .0 ∙ ap₂ (λ (t : Bit) (q : Sum). t ∷ q .bits) (sym (g .sum)) same)
+            ∙ (sym (append-assoc (bits-of (u .codes)) (bit-of (c .sum) ∷ []) (R .bits))
+            ∙ ap (λ (b : List Bit). b ++ R .bits) (sym (bits-append (u .codes) (c .sum ∷ [])))));
+        clauses-are =
+            u .clauses-are
+            ∙ (ap (λ (b : List Clause). u .made ++ b) (s .1 ∙ ap (λ (q : Sum). col .clauses ++ q .clauses) same)
+            ∙ sym (append-assoc (u .made) (col .clauses) (R .clauses)));
+        next-is = u .next-is ∙ (s .2 ∙ ap (λ (q : Sum). q .next) same);
+        used-is = omega (arith, y .needs, u .used-is, wl);
+        n-is = omega (arith, q, ap (λ (x : List Clause). length x) (g .clauses), u .n-is, length-append (u .made) (col .clauses));
+        sums-are = ap (λ (x : List ℕ). set x j (c .sum)) (u .sums-are) ∙ store-next sums₀ (u .codes) (c .sum) j (u .sums-long);
+        sums-long = omega (arith, u .sums-long, length-append (u .codes) (c .sum ∷ []));
+        sums-same = length-set sums j (c .sum) ∙ u .sums-same;
+        room-is = λ h.
+            let at : start ≡ used = is (omega (arith, u .room-same)) in
+            lent room part (words (column-clauses c)) start le (y .fits (omega (arith, length-rest room start le, u .room-same)))
+            ∙ (ap₂ (λ (i : ℕ) (x : List ℤ). sets room i x) at ws
+            ∙ (ap₂ (λ (x : List ℤ) (i : ℕ). sets x i (words (col .clauses))) (u .room-is (omega (arith, u .room-same))) (u .used-is)
+            ∙ (sets-append (words (u .made)) (words (col .clauses)) room₀ (from .words)
+            ∙ ap (λ (w : List ℤ). sets room₀ (from .words) w) (sym wa))));
+        room-same = length-put room part start le same-part ∙ u .room-same;
+        free-pos = omega (arith, g .grows, u .free-pos);
+        grows = omega (arith, g .grows, u .grows);
+        free-small = omega (arith, g .few, u .free-small);
+        used-small = omega (arith, y .few, u .used-small);
+        n-small = omega (arith, u .n-small);
+      }
+
+  pub done : (sums : List ℕ) (room : List ℤ) (carry free used n j : ℕ) → j ≡ m
+      → Upto whole (bits-of left) (bits-of right) from sums₀ room₀ sums room carry free used n j
+      → SumIs whole from m 0 (record { next = free; words = used; clauses = n }) sums₀ sums room₀ room
+  done sums room carry free used n j ej u =
+      let e = rest-end (bits-of left) (bits-of right) j (bit-of carry) free (omega (arith, length-map left bit-of)) in
+      let cl : whole .clauses ≡ u .made = u .clauses-are ∙ (ap (λ (q : Sum). u .made ++ q .clauses) e ∙ append-nil (u .made)) in
+      record {
+        codes = u .codes;
+        bits-are = sym (u .bits-are ∙ (ap (λ (q : Sum). bits-of (u .codes) ++ q .bits) e ∙ append-nil (bits-of (u .codes))));
+        stored = u .sums-are;
+        next-is = sym (u .next-is ∙ ap (λ (q : Sum). q .next) e);
+        words-are = u .used-is ∙ ap (λ (x : List Clause). from .words + length (words x)) (sym cl);
+        clauses-are = u .n-is ∙ ap (λ (x : List Clause). from .clauses + length x) (sym cl);
+        room-is = λ h. u .room-is h ∙ ap (λ (x : List Clause). sets room₀ (from .words) (words x)) (sym cl);
+        grows = u .grows;
+        next-few = omega (arith, u .free-small);
+        words-few = omega (arith, u .used-small);
+        clauses-few = omega (arith, u .n-small);
+      }

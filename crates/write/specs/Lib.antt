@@ -1,0 +1,4 @@
+pub mod Code
+pub mod Gate
+pub mod Rooms
+pub mod Terms

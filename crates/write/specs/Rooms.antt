@@ -1,0 +1,117 @@
+-- What the functions that write columns and lines ask, and what they leave in their rooms.
+use Prim.Native.Nat.{ℕ, _+_, _*_, _≤_, _<_}
+use mathlib.Core.Path.{_≡_}
+use mathlib.Core.Bool.{false}
+use mathlib.Core.List.{List, [], map}
+use lib.ListN.{length, getD}
+use lib.IntN.{ℤ}
+use lib.Seq.{sets}
+use Rattle.line.specs.declared.Line.{Line}
+use Rattle.recipe.specs.Check.{line-at}
+use Rattle.cnf.specs.Words.{words}
+use Rattle.product.specs.Bit.{Bit, fixed, stored}
+use Rattle.product.specs.Lines.{Sum, columns, Encoded}
+use Rattle.product.specs.Product.{Product, product, lines-from}
+use Rattle.write.specs.Code.{bit-of, bits-of}
+use Rattle.write.specs.Gate.{column-clauses}
+use Rattle.write.specs.declared.column.MadeColumn.{MadeColumn}
+use Rattle.write.specs.declared.lines.Place.{Place}
+
+-- the words that a column takes, and its words at the front of the rest, where they fit
+pub record ColumnWritten (c : MadeColumn) (r : ℕ) (rest rest′ : List ℤ) : Type 0 where
+  pub needs : r ≡ length (words (column-clauses c))
+  pub few : r ≤ 80
+  pub fits : r ≤ length rest → rest′ ≡ sets rest 0 (words (column-clauses c))
+
+-- ---- a sum of m columns, from a place on
+
+pub record CanSum (left right : List ℕ) (from : Place) (m : ℕ) (sums : List ℕ) : Type 0 where
+  pub columns : m ≤ 64
+  pub lefts : length left ≡ m
+  pub rights : length right ≡ m
+  pub bits : m ≤ length sums
+  pub next-pos : 0 < from .next
+  pub next-small : from .next ≤ 500000
+  pub words-small : from .words ≤ 500000
+  pub clauses-small : from .clauses ≤ 500000
+
+-- the sum's bits stand as codes in their room from `at` on, and its clauses' words in the clause room, if they fit
+pub record SumIs (s : Sum) (from : Place) (m at : ℕ) (r : Place) (sums sums′ : List ℕ) (room room′ : List ℤ) : Type 0 where
+  pub codes : List ℕ
+  pub bits-are : bits-of codes ≡ s .bits
+  pub stored : sums′ ≡ sets sums at codes
+  pub next-is : r .next ≡ s .next
+  pub words-are : r .words ≡ from .words + length (words (s .clauses))
+  pub clauses-are : r .clauses ≡ from .clauses + length (s .clauses)
+  pub room-is : r .words ≤ length room → room′ ≡ sets room (from .words) (words (s .clauses))
+  pub grows : from .next ≤ r .next
+  pub next-few : r .next ≤ from .next + 2 * m
+  pub words-few : r .words ≤ from .words + 80 * m
+  pub clauses-few : r .clauses ≤ from .clauses + 16 * m
+
+-- ---- a line of m columns, whose own bits go to place `at` of the scratch room
+
+pub record CanLine (l : Line) (m at : ℕ) (from : Place) (scratch : List ℕ) : Type 0 where
+  pub kind-least : 1 ≤ l .kind
+  pub kind-most : l .kind ≤ 3
+  pub columns : m ≤ 36
+  pub long : length scratch ≡ 1188
+  pub lefts : 36 * l .left + 36 ≤ length scratch
+  pub rights : 36 * l .right + 36 ≤ length scratch
+  pub bits : 36 * at + 36 ≤ length scratch
+  pub next-pos : 0 < from .next
+  pub next-small : from .next ≤ 500000
+  pub words-small : from .words ≤ 500000
+  pub clauses-small : from .clauses ≤ 500000
+
+-- ---- a recipe of n lines; x stands in the front of the scratch room
+
+-- operands' bits stand in the scratch room, 36 entries to an operand, and zeros behind
+pub record Holds (scratch : List ℕ) (operands : List (List Bit)) : Type 0 where
+  pub bits : (k j : ℕ) → k < length operands → j < 36 → bit-of (getD scratch (36 * k + j) 0) ≡ getD (getD operands k []) j (fixed false)
+  pub behind : (j : ℕ) → 36 * length operands ≤ j → getD scratch j 0 ≡ 0
+
+-- each line is of a known kind, of earlier operands and of few enough columns
+pub record Writable (w : ℕ) (recipe : List ℕ) (n : ℕ) : Type 0 where
+  pub few : n ≤ 32
+  pub whole : 5 * n ≤ length recipe
+  pub kind-least : (i : ℕ) → i < n → 1 ≤ line-at recipe i .kind
+  pub kind-most : (i : ℕ) → i < n → line-at recipe i .kind ≤ 3
+  pub lefts : (i : ℕ) → i < n → line-at recipe i .left ≤ i
+  pub rights : (i : ℕ) → i < n → line-at recipe i .right ≤ i
+  pub columns : (i : ℕ) → i < n → columns w (line-at recipe i .coefficient) ≤ 36
+
+pub record CanLines (recipe : List ℕ) (n w next : ℕ) (scratch : List ℕ) : Type 0 where
+  pub lines : Writable w recipe n
+  pub width : w ≤ 16
+  pub next-pos : 0 < next
+  pub next-small : next ≤ 400000
+  pub long : length scratch ≡ 1188
+  pub blank : (j : ℕ) → w ≤ j → getD scratch j 0 ≡ 0
+
+pub record LinesAre (e : Encoded) (next : ℕ) (r : Place) (scratch : List ℕ) (room room′ : List ℤ) : Type 0 where
+  pub next-is : r .next ≡ e .next
+  pub words-are : r .words ≡ length (words (e .clauses))
+  pub clauses-are : r .clauses ≡ length (e .clauses)
+  pub room-is : r .words ≤ length room → room′ ≡ sets room 0 (words (e .clauses))
+  pub held : Holds scratch (e .operands)
+  pub grows : next ≤ r .next
+
+-- ---- a pass over a recipe; size is the number of y's bits
+
+pub record CanPass (recipe : List ℕ) (n : ℕ) (x : List ℕ) (next t size : ℕ) : Type 0 where
+  pub lines : Writable (length x) recipe n
+  pub width : length x ≤ 16
+  pub next-pos : 0 < next
+  pub next-small : next ≤ 400000
+  pub few-bits : size ≤ t + 36
+  pub bits : size ≡ length (product t (lines-from recipe 0 n) (bits-of x) next .y)
+
+-- the counts, and in each room what fits
+pub record PassIs (p : Product) (size : ℕ) (r : Place) (y y′ room room′ : List ℤ) : Type 0 where
+  pub next-is : r .next ≡ p .next
+  pub next-pos : 0 < r .next
+  pub words-are : r .words ≡ length (words (p .clauses))
+  pub clauses-are : r .clauses ≡ length (p .clauses)
+  pub room-is : r .words ≤ length room → room′ ≡ sets room 0 (words (p .clauses))
+  pub y-is : size ≤ length y → y′ ≡ sets y 0 (map stored (p .y))

@@ -1,0 +1,44 @@
+-- The terms of a line, the bits of x and the entries of y, in codes and entry by entry, as loops store them.
+use Prim.Native.Nat.{ℕ, zero, suc, _+_, _-_, _*_}
+use mathlib.Core.Bool.{cond}
+use mathlib.Core.List.{List, [], _∷_, _++_}
+use lib.Dec.{eqb, ltb}
+use lib.IntN.{ℤ, pos}
+use lib.ListN.{getD, take, drop}
+use Rattle.cnf.specs.Words.{word}
+use Rattle.write.specs.Code.{literal-of, flipped-code}
+
+-- f 0 to f (m - 1)
+unfoldable pub table : {A : Type 0} → (ℕ → A) → ℕ → List A
+table f zero = []
+table f (suc m) = table f m ++ (f m ∷ [])
+
+-- entry j of codes with s zeros put below
+abbrev pub shifted-code : List ℕ → ℕ → ℕ → ℕ
+shifted-code bits s j = cond (ltb j s) 0 (getD bits (j - s) 0)
+
+-- column j of a term: an operand shifted by s, negated if f is odd
+unfoldable pub term-code : List ℕ → ℕ → ℕ → ℕ → ℕ
+term-code bits s f j = flipped-code (shifted-code bits s j) f
+
+-- by a kind's code: the left term's shift, the right term's, and 1 where the right term is taken off
+unfoldable pub shift-of-left : ℕ → ℕ → ℕ
+shift-of-left kind s = cond (eqb kind 3) 0 s
+
+unfoldable pub shift-of-right : ℕ → ℕ → ℕ
+shift-of-right kind s = cond (eqb kind 3) s 0
+
+unfoldable pub taken-off : ℕ → ℕ
+taken-off kind = cond (eqb kind 1) 0 1
+
+-- operand i of a scratch room, which has 36 entries for each
+unfoldable pub operand-at : List ℕ → ℕ → List ℕ
+operand-at scratch i = take 36 (drop (36 * i) scratch)
+
+-- the code of variable j + 1, bit j of document 01's x
+abbrev pub variable-code : ℕ → ℕ
+variable-code j = 2 * (j + 1)
+
+-- entry j of y: t zeros, then the words of the product's bits
+unfoldable pub y-entry : List ℕ → ℕ → ℕ → ℤ
+y-entry bits t j = cond (ltb j t) (pos 0) (word (literal-of (getD bits (j - t) 0)))

@@ -1,0 +1,209 @@
+// The columns of a line and the lines of a recipe. Operands stand as codes in a scratch room.
+
+ghost use mathlib.Core.Path.{_≡_};
+ghost use mathlib.Core.List.{[], _∷_};
+ghost use Prim.Native.Nat.{_-_, _*_, _^_, _≤_, _<_};
+ghost use lib.ListN.{length, take};
+ghost use lib.Seq.{sets};
+ghost use Rattle.line.specs.Line.{kind-of};
+ghost use Rattle.write.specs.Code.{bit-of, bits-of};
+ghost use Rattle.product.specs.Lines.{adder, line-sum, columns, encoded};
+ghost use Rattle.product.specs.Product.{lines-from};
+ghost use Rattle.write.specs.Terms.{table, term-code, shift-of-left, shift-of-right, taken-off, operand-at};
+ghost use Rattle.write.specs.Rooms.{CanSum, SumIs, CanLine, CanLines, LinesAre};
+use crate::clauses::column_clauses;
+use crate::clauses::write_column;
+use crate::code::flipped;
+use crate::column::column;
+use line::Line;
+
+// ---- a sum of two terms
+
+// Where writing stands: the next free variable, and the words and clauses so far.
+pub struct Place {
+    pub next: u32,
+    pub words: usize,
+    pub clauses: usize,
+}
+
+// Where the rest of a room of b words starts after a of them, also where a are too many.
+fn least(a: usize, b: usize) -> usize
+    ensures { λ r. ⌜ (r ≤ b) × (a ≤ b → r ≡ a) ⌝ }
+{
+    if a <= b { a } else { b }
+}
+
+// The sum of two terms of m columns, from a place on: its bits go to the front of sums. Each column is lent the rest of the room;
+// words that no longer fit are counted all the same.
+fn write_sum(
+    left: &[u32],
+    right: &[u32],
+    first: u32,
+    m: usize,
+    from: Place,
+    sums: &mut [u32],
+    room: &mut [i32],
+) -> Place
+    requires { ⌜ CanSum (now left) (now right) from m (now sums) ⌝ }
+    ensures { λ r. ⌜ SumIs (adder (bits-of (now (left .entry))) (bits-of (now (right .entry))) (bit-of first) (from .next)) from m 0 r (now (sums .entry)) (now (sums .exit)) (now (room .entry)) (now (room .exit)) ⌝ }
+{
+    let mut carry = first;
+    let mut free = from.next;
+    let mut used = from.words;
+    let mut made = from.clauses;
+    let mut j = 0;
+    while j < m {
+        let c = column(left[j], right[j], carry, j + 1 == m, free);
+        sums[j] = c.sum;
+        let start = least(used, room.len());
+        used = used + write_column(c, &mut room[start..]);
+        made = made + column_clauses(c);
+        carry = c.carry;
+        free = c.next;
+        j = j + 1;
+    }
+    Place {
+        next: free,
+        words: used,
+        clauses: made,
+    }
+}
+
+// ---- a line
+
+// A line has at most 36 columns: 20 bits of its coefficient and 16 of x.
+pub(crate) const MOST_COLUMNS: usize = 36;
+
+fn term_bit(bits: &[u32], s: usize, f: u32, j: usize) -> u32
+    requires { ⌜ j < length (now bits) ⌝ }
+    ensures { λ r. ⌜ r ≡ term-code (now (bits .entry)) s f j ⌝ }
+{
+    if j < s {
+        flipped(0, f)
+    } else {
+        flipped(bits[j - s], f)
+    }
+}
+
+// The first m columns of an operand that is shifted by s, negated if f is odd.
+fn term(bits: &[u32], s: usize, f: u32, m: usize, out: &mut [u32])
+    requires { ⌜ (m ≤ length (now bits)) × (m ≤ length (now out)) ⌝ }
+    ensures { λ _. ⌜ now (out .exit) ≡ sets (now (out .entry)) 0 (table (term-code (now (bits .entry)) s f) m) ⌝ }
+{
+    let mut j = 0;
+    while j < m {
+        out[j] = term_bit(bits, s, f, j);
+        j = j + 1;
+    }
+}
+
+fn shift_of_left(kind: u64, s: usize) -> usize
+    ensures { λ r. ⌜ r ≡ shift-of-left kind s ⌝ }
+{
+    if kind == Line::MINUSS { 0 } else { s }
+}
+
+fn shift_of_right(kind: u64, s: usize) -> usize
+    ensures { λ r. ⌜ r ≡ shift-of-right kind s ⌝ }
+{
+    if kind == Line::MINUSS { s } else { 0 }
+}
+
+// 1 where the right term is taken off: its columns are negated, and the first carry is 1.
+fn taken_off(kind: u64) -> u32
+    ensures { λ r. ⌜ r ≡ taken-off kind ⌝ }
+{
+    if kind == Line::SPLUS { 0 } else { 1 }
+}
+
+// A line of m columns: its operands' bits are read at their places in the scratch room, and its own are stored at its place.
+fn write_line(
+    l: Line,
+    m: usize,
+    at: usize,
+    from: Place,
+    scratch: &mut [u32],
+    room: &mut [i32],
+) -> Place
+    requires { ⌜ CanLine l m at from (now scratch) ⌝ }
+    ensures { λ r. ⌜ SumIs (line-sum (kind-of (l .kind)) m (bits-of (operand-at (now (scratch .entry)) (l .left))) (l .shift) (bits-of (operand-at (now (scratch .entry)) (l .right))) (from .next)) from m (36 * at) r (now (scratch .entry)) (now (scratch .exit)) (now (room .entry)) (now (room .exit)) ⌝ }
+{
+    let s = l.shift as usize;
+    let f = taken_off(l.kind);
+    let mut left = [0u32; MOST_COLUMNS];
+    let mut right = [0u32; MOST_COLUMNS];
+    let a = MOST_COLUMNS * l.left;
+    let b = MOST_COLUMNS * l.right;
+    let o = MOST_COLUMNS * at;
+    term(
+        &scratch[a..a + MOST_COLUMNS],
+        shift_of_left(l.kind, s),
+        0,
+        m,
+        &mut left,
+    );
+    term(
+        &scratch[b..b + MOST_COLUMNS],
+        shift_of_right(l.kind, s),
+        f,
+        m,
+        &mut right,
+    );
+    write_sum(&left[..m], &right[..m], f, m, from, &mut scratch[o..], room)
+}
+
+// ---- a recipe
+
+// The largest x of w bits.
+pub(crate) fn largest(w: usize) -> u64
+    requires { ⌜ w ≤ 16 ⌝ }
+    ensures { λ r. ⌜ (r ≡ 2 ^ w - 1) × (r < 65536) ⌝ }
+{
+    (1u64 << w) - 1
+}
+
+fn columns_of(w: usize, k: u64) -> usize
+    requires { ⌜ (w ≤ 16) × (k < 2 ^ 20) ⌝ }
+    ensures { λ r. ⌜ (r ≡ columns w k) × (r ≤ 64) ⌝ }
+{
+    line::bit_length(k * largest(w))
+}
+
+// The n lines of a recipe, in order. x is the first w bits of the scratch room, and next the first free variable.
+pub(crate) fn write_lines(
+    recipe: &[u8],
+    n: usize,
+    w: usize,
+    next: u32,
+    scratch: &mut [u32],
+    room: &mut [i32],
+) -> Place
+    requires { ⌜ CanLines (now recipe) n w next (now scratch) ⌝ }
+    ensures { λ r. ⌜ LinesAre (encoded (columns w) (lines-from (now (recipe .entry)) 0 n) (bits-of (take w (now (scratch .entry))) ∷ []) next) next r (now (scratch .exit)) (now (room .entry)) (now (room .exit)) ⌝ }
+{
+    let mut free = next;
+    let mut used = 0;
+    let mut made = 0;
+    let mut i = 0;
+    while i < n {
+        let a = i * Line::BYTES;
+        let e = a + Line::BYTES;
+        let l = line::read_line(&recipe[a..e]);
+        let m = columns_of(w, l.coefficient);
+        let from = Place {
+            next: free,
+            words: used,
+            clauses: made,
+        };
+        let r = write_line(l, m, i + 1, from, scratch, room);
+        free = r.next;
+        used = r.words;
+        made = r.clauses;
+        i = i + 1;
+    }
+    Place {
+        next: free,
+        words: used,
+        clauses: made,
+    }
+}
