@@ -1,0 +1,54 @@
+-- `dimacs::number::put_signed`: a minus sign or none, then the magnitude. Assumes nothing.
+use borrow.Author.Needs.{needs}
+use mathlib.Core.Path.{ap, _∙_}
+use mathlib.Core.Bool.{true, false}
+use Prim.Native.Nat.{ℕ}
+use native.Mathlib.Omega.{arith}
+use lib.IntN.{natAbs}
+use mir.Syntax.{w32}
+use mir.ValLaws.{toZ-ofZ}
+use lib.ListN.{length}
+use Rattle.dimacs.specs.Decimal.{decimal}
+use Rattle.dimacs.proofs.Place.{put-two}
+use Rattle.dimacs.proofs.Sign.{sign, signed-minus, signed-plain}
+use Rattle.dimacs.proofs.number.put_signed.Statement.{statement}
+use Rattle.dimacs.proofs.number.put_signed.Tie as tie
+
+put-byte-requires : tie.Need-put-byte-requires
+put-byte-requires c κs = let s = c .before .before .before in
+    omega (arith, ap length (signed-minus (s .args .z) (sign (s .args .z) true (s .fits .z) (c .before .if1 .taken))))
+
+put-decimal-requires : tie.Need-put-decimal-requires
+put-decimal-requires c κs = let p = c .before .before .before .before in
+    let s = p .before .before .before .before in
+    omega (arith, ap length (signed-minus (s .args .z) (sign (s .args .z) true (s .fits .z) (p .before .before .if1 .taken))), p .put-byte .ensures .ends, p .put-byte .kept .0, ap (λ (x : ℕ). length (decimal x)) (c .magnitude .ensures ∙ ap natAbs (toZ-ofZ w32 (s .args .z) (s .fits .z))))
+
+returns : tie.Need-returns
+returns c = let q = c .before .before in
+    let p = q .before .before .before .before .before in
+    let s = p .before .before .before .before in
+    let e = signed-minus (s .args .z) (sign (s .args .z) true (s .fits .z) (p .before .before .if1 .taken)) in
+    rw e (put-two (p .put-byte .ensures) (rw (q .before .magnitude .ensures ∙ ap natAbs (toZ-ofZ w32 (s .args .z) (s .fits .z))) at (q .put-decimal .ensures)))
+
+put-decimal-requires-2 : tie.Need-put-decimal-requires-2
+put-decimal-requires-2 c κs = let s = c .before .before .before .before in
+    omega (arith, ap length (signed-plain (s .args .z) (sign (s .args .z) false (s .fits .z) (c .before .before .if1 .left))), ap (λ (x : ℕ). length (decimal x)) (c .magnitude2 .ensures ∙ ap natAbs (toZ-ofZ w32 (s .args .z) (s .fits .z))))
+
+returns-2 : tie.Need-returns-2
+returns-2 c = let q = c .before .before in
+    let s = q .before .before .before .before .before in
+    rw (signed-plain (s .args .z) (sign (s .args .z) false (s .fits .z) (q .before .before .before .if1 .left))) (rw (q .before .magnitude2 .ensures ∙ ap natAbs (toZ-ofZ w32 (s .args .z) (s .fits .z))) at (q .put-decimal2 .ensures))
+
+pub put-signed-spec : {M : Type 1} → statement M
+put-signed-spec =
+    tie.close
+    (tie.spec
+    put-byte-requires
+    (λ c κs. search needs)
+    put-decimal-requires
+    (λ c. search needs)
+    returns
+    (λ c κs. search needs)
+    put-decimal-requires-2
+    (λ c. search needs)
+    returns-2)

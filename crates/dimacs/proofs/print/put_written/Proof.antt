@@ -1,0 +1,53 @@
+-- `dimacs::print::put_written`: the counts cut the rooms, by the answer's case. Assumes nothing.
+use borrow.Author.Needs.{needs}
+use mathlib.Core.Path.{ap, sym}
+use native.Mathlib.Omega.{arith}
+use lib.ListN.{length, length-take}
+use lib.Seq.{length-take-le}
+use Rattle.dimacs.specs.Steps.{written-text}
+use Rattle.dimacs.proofs.Shown.{fits-as}
+use Rattle.dimacs.proofs.print.put_written.Statement.{statement}
+use Rattle.dimacs.proofs.print.put_written.Tie as tie
+
+slice-aggregate-put-file : tie.Need-slice-aggregate-put-file
+slice-aggregate-put-file c = let x = c .before .before .before .written2 .given in
+    let s = c .before .before .before .before .before .before in
+    sym (length-take-le (x .0 .1 .1 .1 .0) (s .args .bits .now) (fits-as (length (s .args .bits .now)) (length (s .args .words .now)) (x .1) (s .pre .0) .0))
+
+slice-aggregate-put-file-2 : tie.Need-slice-aggregate-put-file-2
+slice-aggregate-put-file-2 c = let x = c .before .before .before .before .written2 .given in
+    let s = c .before .before .before .before .before .before .before in
+    sym (length-take-le (x .0 .0) (s .args .words .now) (fits-as (length (s .args .bits .now)) (length (s .args .words .now)) (x .1) (s .pre .0) .1))
+
+put-file-requires : tie.Need-put-file-requires
+put-file-requires c κs = simp length-take (omega arith)
+
+returns : tie.Need-returns
+unfolding written-text
+returns c = let p = c .before .before in
+    let x = p .before .before .before .written .given in
+    let a = p .before .before .before .before .before .before .args in
+    rw (ap (λ d. written-text d (a .c) (a .w) (a .bits .now) (a .words .now)) (x .1)) (p .put-refusal .ensures)
+
+returns-2 : tie.Need-returns-2
+unfolding written-text
+returns-2 c = let p = c .before .before in
+    let x = p .before .before .before .before .before .written2 .given in
+    let a = p .before .before .before .before .before .before .before .before .args in
+    rw (ap (λ d. written-text d (a .c) (a .w) (a .bits .now) (a .words .now)) (x .1)) (p .put-file .ensures)
+
+pub put-written-spec : {M : Type 1} → statement M
+put-written-spec =
+    tie.close
+    (tie.spec
+    (λ c. search needs)
+    (λ c κs. search needs)
+    (λ c. search needs)
+    slice-aggregate-put-file
+    (λ c. search needs)
+    slice-aggregate-put-file-2
+    put-file-requires
+    (λ c. search needs)
+    returns
+    (λ c. search needs)
+    returns-2)

@@ -1,0 +1,156 @@
+// From a request to the bytes that answer it: plan, write, print.
+use crate::Request;
+use crate::read::read_request;
+use crate::text::put_file;
+use crate::text::put_refused;
+use line::Line;
+use line::Refusal;
+use plan::Planned;
+use product::Written;
+ghost use mathlib.Core.Path.{_≡_};
+ghost use Prim.Native.Nat.{_+_, _*_, _≤_};
+ghost use lib.ListN.{length};
+ghost use Rattle.line.specs.Refusal.{refusal-number};
+ghost use Rattle.dimacs.specs.Put.{Put};
+ghost use Rattle.dimacs.specs.Print.{answered, printed};
+ghost use Rattle.dimacs.specs.Steps.{Written-fits, written-text, recipe-text, Planned-fits, planned-text};
+ghost use Rattle.dimacs.specs.declared.Request.the-variants.{Asked};
+ghost use Rattle.split.specs.Choose.{split-of};
+ghost use Rattle.dimacs.specs.File.{refused-text};
+
+fn refusal_number(x: Refusal) -> u32
+    ensures { λ r. ⌜ r ≡ refusal-number x ⌝ }
+{
+    match x {
+        Refusal::Constant => 1,
+        Refusal::Width => 2,
+        Refusal::Length => 3,
+        Refusal::Form => 4,
+        Refusal::Operand => 5,
+        Refusal::Even => 6,
+        Refusal::Value => 7,
+        Refusal::Product => 8,
+        Refusal::BitRoom => 9,
+        Refusal::ClauseRoom => 10,
+        Refusal::WorkRoom => 11,
+        Refusal::RecipeRoom => 12,
+        Refusal::Input => 13,
+    }
+}
+
+fn put_refusal(out: &mut [u8], x: Refusal) -> usize
+    requires { ⌜ 29 ≤ length (now out) ⌝ }
+    ensures { λ r. ⌜ Put (now (out .entry)) (now (out .exit)) 0 r (refused-text (refusal-number x)) ⌝ }
+{
+    put_refused(out, refusal_number(x) as u64)
+}
+
+fn put_written(
+    out: &mut [u8],
+    c: u32,
+    w: u32,
+    written: Written,
+    bits: &[i32],
+    words: &[i32],
+) -> usize
+    requires { ⌜ Written-fits written (length (now bits)) (length (now words)) ⌝ }
+    requires { ⌜ 100 + 12 * (length (now bits) + length (now words)) ≤ length (now out) ⌝ }
+    ensures { λ r. ⌜ Put (now (out .entry)) (now (out .exit)) 0 r (written-text written c w (now (bits .entry)) (now (words .entry))) ⌝ }
+{
+    match written {
+        Written::Refused(x) => put_refusal(out, x),
+        Written::Clauses {
+            words: k,
+            clauses,
+            highest,
+            bits: b,
+        } => put_file(
+            out,
+            c as u64,
+            w as u64,
+            &bits[..b],
+            highest as u64,
+            clauses as u64,
+            &words[..k],
+        ),
+    }
+}
+
+// The rooms are long enough for every constant and width. Each is made by a call, so that the caller's proof sees its length and no entry.
+
+// 2^(L-1) splits for L = 16 bits.
+const WORK_BYTES: usize = 32_768;
+
+// L div 2 = 8 lines of five bytes.
+const RECIPE_BYTES: usize = 40;
+
+// c * (2^w - 1) has at most L + w = 32 bits.
+const BITS: usize = 32;
+
+// 8 lines of at most 32 columns, each of at most 64 words.
+const WORDS: usize = 16_384;
+
+fn work_room() -> [u8; WORK_BYTES]
+    ensures { λ r. ⌜ 32768 ≡ length r ⌝ }
+{
+    [0; WORK_BYTES]
+}
+
+fn recipe_room() -> [u8; RECIPE_BYTES]
+    ensures { λ r. ⌜ 40 ≡ length r ⌝ }
+{
+    [0; RECIPE_BYTES]
+}
+
+fn bit_room() -> [i32; BITS]
+    ensures { λ r. ⌜ 32 ≡ length r ⌝ }
+{
+    [0; BITS]
+}
+
+fn word_room() -> [i32; WORDS]
+    ensures { λ r. ⌜ 16384 ≡ length r ⌝ }
+{
+    [0; WORDS]
+}
+
+fn put_recipe(out: &mut [u8], c: u32, w: u32, recipe: &[u8]) -> usize
+    requires { ⌜ 262144 ≤ length (now out) ⌝ }
+    ensures { λ r. ⌜ Put (now (out .entry)) (now (out .exit)) 0 r (recipe-text c w (now (recipe .entry))) ⌝ }
+{
+    let mut bits = bit_room();
+    let mut words = word_room();
+    let written = write::write(c as u64, w, recipe, &mut bits, &mut words);
+    put_written(out, c, w, written, &bits, &words)
+}
+
+fn put_planned(out: &mut [u8], c: u32, w: u32, planned: Planned, recipe: &[u8]) -> usize
+    requires { ⌜ (Planned-fits planned (length (now recipe))) × (262144 ≤ length (now out)) ⌝ }
+    ensures { λ r. ⌜ Put (now (out .entry)) (now (out .exit)) 0 r (planned-text planned c w (now (recipe .entry))) ⌝ }
+{
+    match planned {
+        Planned::Refused(x) => put_refusal(out, x),
+        Planned::Lines(n) => put_recipe(out, c, w, &recipe[..Line::BYTES * n]),
+    }
+}
+
+fn put_product(out: &mut [u8], c: u32, w: u32) -> usize
+    requires { ⌜ 262144 ≤ length (now out) ⌝ }
+    ensures { λ r. ⌜ Put (now (out .entry)) (now (out .exit)) 0 r (answered split-of (Asked c w)) ⌝ }
+{
+    let mut work = work_room();
+    let mut recipe = recipe_room();
+    let planned = plan::plan(c as u64, &mut work, &mut recipe);
+    put_planned(out, c, w, planned, &recipe)
+}
+
+pub(crate) fn put_answer(out: &mut [u8], input: &[u8]) -> usize
+    requires { ⌜ 262144 ≤ length (now out) ⌝ }
+    ensures { λ r. ⌜ Put (now (out .entry)) (now (out .exit)) 0 r (printed (now (input .entry))) ⌝ }
+{
+    let request = read_request(input);
+    let Request::Asked(c, w) = request else {
+        return put_refusal(out, Refusal::Input);
+    };
+    put_product(out, c, w)
+}

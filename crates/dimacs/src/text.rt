@@ -1,0 +1,94 @@
+// The file and the refusal, put at a place of a lent room.
+use crate::number::put_byte;
+use crate::number::put_bytes;
+use crate::number::put_decimal;
+use crate::number::put_signed;
+ghost use Prim.Native.Nat.{_+_, _*_, _≤_};
+ghost use lib.ListN.{length};
+ghost use Rattle.dimacs.specs.File.{two-numbers, entries, line-2, word-text, words-text, file-text, refused-text};
+ghost use Rattle.dimacs.specs.Put.{Put};
+
+fn put_two_numbers(out: &mut [u8], at: usize, name: &[u8], m: u64, n: u64) -> usize
+    requires { ⌜ at + (length (now name) + 42) ≤ length (now out) ⌝ }
+    ensures { λ r. ⌜ Put (now (out .entry)) (now (out .exit)) at r (two-numbers (now (name .entry)) m n) × (r ≤ at + (length (now (name .entry)) + 42)) ⌝ }
+{
+    let a = put_bytes(out, at, name);
+    let b = put_decimal(out, a, m);
+    let d = put_byte(out, b, b' ');
+    let e = put_decimal(out, d, n);
+    put_byte(out, e, b'\n')
+}
+
+fn put_entries(out: &mut [u8], at: usize, ys: &[i32]) -> usize
+    requires { ⌜ at + 12 * length (now ys) ≤ length (now out) ⌝ }
+    ensures { λ r. ⌜ Put (now (out .entry)) (now (out .exit)) at r (entries (now (ys .entry))) × (r ≤ at + 12 * length (now (ys .entry))) ⌝ }
+{
+    let mut e = at;
+    let mut i: usize = 0;
+    while i < ys.len() {
+        e = put_byte(out, e, b' ');
+        e = put_signed(out, e, ys[i]);
+        i += 1;
+    }
+    e
+}
+
+fn put_line_2(out: &mut [u8], at: usize, ys: &[i32]) -> usize
+    requires { ⌜ at + (4 + 12 * length (now ys)) ≤ length (now out) ⌝ }
+    ensures { λ r. ⌜ Put (now (out .entry)) (now (out .exit)) at r (line-2 (now (ys .entry))) × (r ≤ at + (4 + 12 * length (now (ys .entry)))) ⌝ }
+{
+    let a = put_bytes(out, at, b"c y");
+    let b = put_entries(out, a, ys);
+    put_byte(out, b, b'\n')
+}
+
+fn put_word(out: &mut [u8], at: usize, z: i32) -> usize
+    requires { ⌜ at + 12 ≤ length (now out) ⌝ }
+    ensures { λ r. ⌜ Put (now (out .entry)) (now (out .exit)) at r (word-text z) ⌝ }
+{
+    let e = put_signed(out, at, z);
+    if z == 0 {
+        return put_byte(out, e, b'\n');
+    }
+    put_byte(out, e, b' ')
+}
+
+fn put_words(out: &mut [u8], at: usize, words: &[i32]) -> usize
+    requires { ⌜ at + 12 * length (now words) ≤ length (now out) ⌝ }
+    ensures { λ r. ⌜ Put (now (out .entry)) (now (out .exit)) at r (words-text (now (words .entry))) × (r ≤ at + 12 * length (now (words .entry))) ⌝ }
+{
+    let mut e = at;
+    let mut i: usize = 0;
+    while i < words.len() {
+        e = put_word(out, e, words[i]);
+        i += 1;
+    }
+    e
+}
+
+pub(crate) fn put_file(
+    out: &mut [u8],
+    c: u64,
+    w: u64,
+    ys: &[i32],
+    highest: u64,
+    clauses: u64,
+    words: &[i32],
+) -> usize
+    requires { ⌜ 100 + 12 * (length (now ys) + length (now words)) ≤ length (now out) ⌝ }
+    ensures { λ r. ⌜ Put (now (out .entry)) (now (out .exit)) 0 r (file-text c w (now (ys .entry)) highest clauses (now (words .entry))) ⌝ }
+{
+    let a = put_two_numbers(out, 0, b"c mul ", c, w);
+    let b = put_line_2(out, a, ys);
+    let d = put_two_numbers(out, b, b"p cnf ", highest, clauses);
+    put_words(out, d, words)
+}
+
+pub(crate) fn put_refused(out: &mut [u8], number: u64) -> usize
+    requires { ⌜ 29 ≤ length (now out) ⌝ }
+    ensures { λ r. ⌜ Put (now (out .entry)) (now (out .exit)) 0 r (refused-text number) ⌝ }
+{
+    let a = put_bytes(out, 0, b"refused ");
+    let b = put_decimal(out, a, number);
+    put_byte(out, b, b'\n')
+}

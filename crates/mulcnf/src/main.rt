@@ -1,0 +1,21 @@
+// The program: what `dimacs` answers to standard input goes to standard output.
+use libc::STDIN_FILENO;
+use libc::STDOUT_FILENO;
+ghost use mathlib.Core.Path.{_≡_};
+ghost use lib.ListN.{length};
+
+fn room() -> [u8; dimacs::ROOM]
+    ensures { λ r. ⌜ 262144 ≡ length r ⌝ }
+{
+    [0; dimacs::ROOM]
+}
+
+fn main() {
+    // The longest request has nine bytes, so a tenth says that there is too much.
+    let mut input = [0u8; 10];
+    let n = io::read_full(STDIN_FILENO, &mut input);
+    let mut out = room();
+    let printed = dimacs::file(&input[..n], &mut out);
+    let k = dimacs::bytes_put(printed, &out);
+    io::write_all(STDOUT_FILENO, &out[..k]);
+}
