@@ -1,0 +1,129 @@
+-- The three demands, of the calls `plan`, `check` and `write`.
+--
+-- A call's contract fixes its answer and every room at exit as functions of what came in: `planned c work recipe`, `checked c recipe` and
+-- `written c w recipe bits clauses`, document 01 as definitions. So what is said here of these functions is said of the calls, and two results that
+-- meet a contract are one (`planned-once`, `checked-once` and `one-result`, in the crates of the calls).
+--
+-- Demand 1. Every call takes any constant, width, recipe and rooms: no contract has a condition on the caller. It refuses by document 01's numbers,
+-- exactly where they say: that is the text of the three functions. A refusal writes nothing (`planning-refused`, `writing-refused`): where the
+-- answer is a refusal, whichever it is, each room at exit is what it was.
+--
+-- Demand 2. A recipe is accepted exactly when it is right (`accepted-exactly`): c is in range, there are at most 32 lines of five bytes, each line has
+-- the form, names earlier operands, claims an odd coefficient and exactly the one that its kind gives, and the product is c's odd part. For an
+-- accepted one, a width from 1 to 16 and rooms that suffice, writing does not refuse, and in the DIMACS meaning of the words that stand in the
+-- clause room each input x below 2^w extends to exactly one satisfying assignment, and there the entries of the bit room read as c * x
+-- (`each-input`). The planner gives the recipe that document 01's rules give and no other: a lookup that keeps the rule at every odd number of at
+-- most L bits is the one that planning uses (`rule-fixes-splits`); the planned recipe's lines claim the coefficients of c's set, each once
+-- (`planned-coefficients`), and it is accepted (`planned-is-right`).
+--
+-- Demand 3. For c from 1 to 65,535 with L bits in its odd part, the planned recipe has at most L div 2 lines, and never more than the nonzero digits of
+-- the odd part's non-adjacent form less one (`few-lines`), of which every positive number has exactly one (`one-form`). At width w its clauses, read
+-- off the room, are at most 14 * (L + w) a line (`few-clauses`).
+use Prim.Native.Nat.{ℕ, suc, _+_, _-_, _*_, _/_, _%_, _^_, _≤_, _<_}
+use mathlib.Core.Path.{_≡_, refl, sym, ap, _∙_, subst}
+use mathlib.Core.Bool.{true}
+use mathlib.Core.List.{List}
+use native.Mathlib.Omega.{arith}
+use lib.IntN.{ℤ}
+use lib.ListN.{length, getD}
+use Rattle.line.specs.Number.{bit-length, odd-part}
+use Rattle.line.specs.declared.Refusal.{Refusal}
+use Rattle.recipe.specs.Check.{checked, line-at, coefficient-at}
+use Rattle.recipe.specs.Accepted.{Right}
+use Rattle.recipe.specs.declared.Checked.the-variants.{Accepted}
+use Rattle.recipe.proofs.Accepted.{accepted-right, right-accepted}
+use Rattle.split.specs.Reach.{member, set-of}
+use Rattle.split.specs.Choose.{lines, Rule, split-of}
+use Rattle.split.specs.Order.{coefficients, recipe-for, lines-bytes}
+use Rattle.split.specs.Form.{Digit, SignedForm, nonzero, signed-form}
+use Rattle.split.proofs.Choose.{only}
+use Rattle.split.proofs.Reach.{lines-depend}
+use Rattle.split.proofs.Sets.{Distinct}
+use Rattle.split.proofs.Order.{coefficients-distinct, coefficients-members}
+use Rattle.split.proofs.Form.{form-is, form-only}
+use Rattle.plan.specs.Plan as plan
+use Rattle.plan.specs.Plan.{planned, plan-by, plan-answer, odd-bits}
+use Rattle.plan.specs.declared.Planned as plan-types
+use Rattle.plan.specs.declared.Planned.the-variants as plan-answers
+use Rattle.plan.proofs.Accepts.{planned-accepted, planned-claims, planned-lines-half, planned-lines-form, planned-bits}
+use Rattle.product.specs.Product.{Product, product-of, clause-words}
+use Rattle.product.specs.Write.{written, write-by, write-answer, written-number, highest-variable, y-length}
+use Rattle.product.specs.Demand.{Demand-2, Result, words-at-exit, entries-at-exit}
+use Rattle.product.specs.declared.Written.{Written}
+use Rattle.product.specs.declared.Written.the-variants as write-answers
+use Rattle.product.proofs.Demands.{demand-2, not-refused, demand-3-clauses}
+use Rattle.cnf.specs.Words.{clauses-of}
+
+-- ---- demand 1
+
+planning-by : (t : ℕ → ℕ) (a : plan-types.Planned) (c : ℕ) (work recipe : List ℕ) (x : Refusal) → plan-by t a c work recipe .answer ≡ plan-answers.Refused x
+    → (plan-by t a c work recipe .work ≡ work) × (plan-by t a c work recipe .recipe ≡ recipe)
+planning-by t (plan-answers.Lines n) c work recipe x e =
+    let z : _≡_ {A = ℕ} 0 1 = cc in
+    absurd (omega arith)
+planning-by t (plan-answers.Refused y) c work recipe x e = (refl, refl)
+
+pub planning-refused : (c : ℕ) (work recipe : List ℕ) (x : Refusal) → planned c work recipe .answer ≡ plan-answers.Refused x
+    → (planned c work recipe .work ≡ work) × (planned c work recipe .recipe ≡ recipe)
+unfolding planned plan.plan-outcome
+planning-refused c work recipe x e = planning-by split-of (plan-answer split-of c (length work) (length recipe)) c work recipe x e
+
+writing-by : (a : Written) (p : Product) (bits clauses : List ℤ) (x : Refusal) → write-by a p bits clauses .answer ≡ write-answers.Refused x
+    → (write-by a p bits clauses .bits ≡ bits) × (write-by a p bits clauses .clauses ≡ clauses)
+writing-by (write-answers.Clauses k n v b) p bits clauses x e =
+    let z : _≡_ {A = ℕ} 0 1 = cc in
+    absurd (omega arith)
+writing-by (write-answers.Refused y) p bits clauses x e = (refl, refl)
+
+pub writing-refused : (c w : ℕ) (recipe : List ℕ) (bits clauses : List ℤ) (x : Refusal) → written c w recipe bits clauses .answer ≡ write-answers.Refused x
+    → (written c w recipe bits clauses .bits ≡ bits) × (written c w recipe bits clauses .clauses ≡ clauses)
+unfolding written
+writing-refused c w recipe bits clauses x e =
+    writing-by (write-answer c w recipe (length bits) (length clauses)) (product-of c w recipe) bits clauses x e
+
+-- ---- demand 2
+
+pub accepted-exactly : (c : ℕ) (recipe : List ℕ) → (checked c recipe ≡ Accepted → Right c recipe) × (Right c recipe → checked c recipe ≡ Accepted)
+accepted-exactly c recipe = (accepted-right c recipe, right-accepted c recipe)
+
+-- an answer and two rooms at exit that meet writing's contract, for an accepted recipe in rooms that suffice
+module _ (c w : ℕ) (recipe : List ℕ) (bits clauses : List ℤ) (answer : Written) (bits′ clauses′ : List ℤ) (meets : Result c w recipe bits clauses answer bits′ clauses′)
+    (accepted : checked c recipe ≡ Accepted) (some : 1 ≤ w) (few : w ≤ 16) (bits-fit : y-length c w ≤ length bits)
+    (clauses-fit : length (clause-words (product-of c w recipe)) ≤ length clauses) where
+  succeeds : written-number answer ≡ 0
+  succeeds = not-refused c w recipe bits clauses answer bits′ clauses′ meets accepted some few bits-fit clauses-fit
+
+  pub each-input : (x : ℕ) → x < 2 ^ w → Demand-2 c w x (highest-variable answer) (words-at-exit answer clauses′) (entries-at-exit answer bits′)
+  each-input x h = demand-2 c w recipe bits clauses answer bits′ clauses′ meets succeeds x h
+
+pub rule-fixes-splits : (t : ℕ → ℕ) (L : ℕ) → Rule lines t L → L < 32 → (n : ℕ) → n % 2 ≡ 1 → bit-length n ≤ L → t n ≡ split-of n
+rule-fixes-splits t L rule few n odd small = only lines lines-depend t L rule few n odd small
+
+module _ (c : ℕ) (least : 1 ≤ c) (most : c ≤ 65535) where
+  abbrev bytes : List ℕ
+  bytes = lines-bytes (recipe-for split-of (odd-part c))
+
+  abbrev ks : List ℕ
+  ks = coefficients split-of (odd-part c)
+
+  pub planned-is-right : checked c bytes ≡ Accepted
+  planned-is-right = planned-accepted c least most
+
+  -- line i + 1 claims the i-th coefficient, no coefficient stands twice, and they are the members of the set
+  pub planned-coefficients : ((i : ℕ) → i < length ks → coefficient-at bytes (suc i) ≡ getD ks i 0) × Distinct ks
+      × ((x : ℕ) → member x ks ≡ member x (set-of split-of (odd-part c)))
+  planned-coefficients = (planned-claims c least most, coefficients-distinct split-of (odd-part c), coefficients-members split-of (odd-part c))
+
+  -- ---- demand 3
+
+  pub few-lines : (length (recipe-for split-of (odd-part c)) ≤ odd-bits c / 2)
+      × ((ds : List Digit) → SignedForm (odd-part c) ds → suc (length (recipe-for split-of (odd-part c))) ≤ nonzero ds)
+  few-lines = (planned-lines-half c least most, planned-lines-form c least most)
+
+  pub few-clauses : (w : ℕ) (bits clauses : List ℤ) (answer : Written) (bits′ clauses′ : List ℤ) → Result c w bytes bits clauses answer bits′ clauses′ → written-number answer ≡ 0
+      → length (clauses-of (words-at-exit answer clauses′)) ≤ 14 * (odd-bits c + w) * (length bytes / 5)
+  few-clauses w bits clauses answer bits′ clauses′ meets z =
+      demand-3-clauses c w bytes bits clauses answer bits′ clauses′ meets z (odd-bits c) (planned-bits c least most)
+
+pub one-form : (n : ℕ) → SignedForm n (signed-form n) × ((ds : List Digit) → SignedForm n ds → ds ≡ signed-form n)
+one-form n = (form-is n, form-only n)

@@ -1,0 +1,4 @@
+pub mod PlanCases
+pub mod Bench
+pub mod Demands
+pub mod Calls

@@ -1,0 +1,43 @@
+/* Constant products as SAT clauses: the archive's entry points (target/staticlib/libladlebean.a, by `rt staticlib ladlebean`; x86-64).
+
+   Each call answers 0, or the number of its refusal (docs/REFUSALS.md), and leaves counts in the slice `answers`. A refusal leaves every
+   room as it came and every count 0. A slice of answers that is too short is refused with 99, and then nothing at all is written.
+   No call has any other condition: every c, w, recipe and room is taken. Rooms must not overlap, and each pointer must be good for its
+   length; with length 0 it is not read. */
+#ifndef LADLEBEAN_H
+#define LADLEBEAN_H
+
+#include <stddef.h>
+#include <stdint.h>
+
+#ifdef __cplusplus
+extern "C" {
+#endif
+
+#define LADLEBEAN_SHORT_ANSWERS 99
+
+/* Rooms that are never too short. */
+#define LADLEBEAN_WORK 32768
+#define LADLEBEAN_RECIPE 40
+#define LADLEBEAN_BITS 32
+#define LADLEBEAN_WORDS 73728
+
+/* Plans the recipe for c. Refusals 1, 11, 12. After success the front of `work` holds the split of each odd number of at most as many
+   bits as c's odd part has, the front of `recipe` five bytes for each line, and answers[0] the number of lines. One answer. */
+uint64_t ladlebean_plan(uint64_t c, uint8_t *work, size_t work_length, uint8_t *recipe, size_t recipe_length, uint64_t *answers,
+                        size_t answers_length);
+
+/* Whether a recipe is right for c. Refusals 1, 3, 4 to 7, 8. */
+uint64_t ladlebean_check(uint64_t c, const uint8_t *recipe, size_t recipe_length);
+
+/* Writes the clauses of an accepted recipe for y = c * x, x of w bits. Refusals 1, 2, 3, 4 to 7, 8, 9, 10. After success the front of
+   `bits` holds y, lowest bit first, each as its literal or 0 if it is always 0; the front of `clauses` holds the clauses, each closed by
+   a 0; answers[0] to answers[3] are the words used, the clauses, the highest variable and the bits of y. Four answers. */
+uint64_t ladlebean_write(uint64_t c, uint32_t w, const uint8_t *recipe, size_t recipe_length, int32_t *bits, size_t bits_length,
+                         int32_t *clauses, size_t clauses_length, uint64_t *answers, size_t answers_length);
+
+#ifdef __cplusplus
+}
+#endif
+
+#endif

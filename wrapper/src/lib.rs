@@ -1,0 +1,90 @@
+//! Constant products as SAT clauses: a safe wrapper over the proved archive.
+//!
+//! Each call takes any arguments and refuses by document 01's numbers; a refusal leaves every room as it came.
+
+/// The declarations of `include/ladlebean.h`.
+mod archive {
+    extern "C" {
+        pub fn ladlebean_plan(
+            c: u64,
+            work: *mut u8,
+            work_length: usize,
+            recipe: *mut u8,
+            recipe_length: usize,
+            answers: *mut u64,
+            answers_length: usize,
+        ) -> u64;
+        pub fn ladlebean_check(c: u64, recipe: *const u8, recipe_length: usize) -> u64;
+        pub fn ladlebean_write(
+            c: u64,
+            w: u32,
+            recipe: *const u8,
+            recipe_length: usize,
+            bits: *mut i32,
+            bits_length: usize,
+            clauses: *mut i32,
+            clauses_length: usize,
+            answers: *mut u64,
+            answers_length: usize,
+        ) -> u64;
+    }
+}
+
+/// The number of a refusal, 1 to 12 (docs/REFUSALS.md).
+#[derive(Clone, Copy, Debug, PartialEq, Eq)]
+pub struct Refusal(pub u64);
+
+/// What a written product tells.
+#[derive(Clone, Copy, Debug, PartialEq, Eq)]
+pub struct Counts {
+    pub words: usize,
+    pub clauses: usize,
+    pub highest: u32,
+    pub bits: usize,
+}
+
+fn unless_refused<T>(number: u64, value: T) -> Result<T, Refusal> {
+    if number == 0 {
+        Ok(value)
+    } else {
+        Err(Refusal(number))
+    }
+}
+
+/// Plans the recipe for `c` into the two rooms; gives the number of lines.
+pub fn plan(c: u64, work: &mut [u8], recipe: &mut [u8]) -> Result<usize, Refusal> {
+    let mut lines = [0u64; 1];
+    // SAFETY: each pointer is good for its length, and distinct `&mut` do not overlap; the call asks no more.
+    let number = unsafe {
+        archive::ladlebean_plan(c, work.as_mut_ptr(), work.len(), recipe.as_mut_ptr(), recipe.len(), lines.as_mut_ptr(), lines.len())
+    };
+    unless_refused(number, lines[0] as usize)
+}
+
+/// Whether `recipe` is right for `c`.
+pub fn check(c: u64, recipe: &[u8]) -> Result<(), Refusal> {
+    // SAFETY: the pointer is good for its length.
+    unless_refused(unsafe { archive::ladlebean_check(c, recipe.as_ptr(), recipe.len()) }, ())
+}
+
+/// Writes y and the clauses of `recipe` for `c` at width `w` into the two rooms.
+pub fn write(c: u64, w: u32, recipe: &[u8], bits: &mut [i32], clauses: &mut [i32]) -> Result<Counts, Refusal> {
+    let mut answers = [0u64; 4];
+    // SAFETY: each pointer is good for its length, and distinct `&mut` do not overlap; the call asks no more.
+    let number = unsafe {
+        archive::ladlebean_write(
+            c,
+            w,
+            recipe.as_ptr(),
+            recipe.len(),
+            bits.as_mut_ptr(),
+            bits.len(),
+            clauses.as_mut_ptr(),
+            clauses.len(),
+            answers.as_mut_ptr(),
+            answers.len(),
+        )
+    };
+    let [words, count, highest, length] = answers;
+    unless_refused(number, Counts { words: words as usize, clauses: count as usize, highest: highest as u32, bits: length as usize })
+}
