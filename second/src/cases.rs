@@ -153,7 +153,16 @@ fn checked() -> Vec<String> {
         vec![0x5F, 0xFF, 0xFF, 0xFF, 0xFE],
     ]
     .map(|recipe| (1, recipe));
-    let rows = whole.iter().chain(&broken).chain(&others).chain(&edges);
+    // lines that break two rules: the form and an operand, either operand and an even claim, an even claim and the value
+    let twice = [
+        vec![0xA0, 0x84, 0, 0, 3],
+        vec![0x00, 0x04, 0x10, 0, 3],
+        vec![0x20, 0x84, 0, 0, 2],
+        vec![0x20, 0x04, 0x10, 0, 2],
+        vec![0x20, 0x04, 0, 0, 4],
+    ]
+    .map(|recipe| (1, recipe));
+    let rows = whole.iter().chain(&broken).chain(&others).chain(&edges).chain(&twice);
     rows.map(|(c, recipe)| {
         format!("record {{ c = {c}; recipe = {}; number = {} }}", naturals(recipe), number(&check(*c, recipe)))
     })

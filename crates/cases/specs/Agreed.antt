@@ -118,6 +118,11 @@ agreed =
           ∷ record { c = 1; recipe = 32 ∷ 80 ∷ 0 ∷ 0 ∷ 1 ∷ []; number = 7 }
           ∷ record { c = 1; recipe = 64 ∷ 80 ∷ 15 ∷ 255 ∷ 255 ∷ []; number = 8 }
           ∷ record { c = 1; recipe = 95 ∷ 255 ∷ 255 ∷ 255 ∷ 254 ∷ []; number = 5 }
+          ∷ record { c = 1; recipe = 160 ∷ 132 ∷ 0 ∷ 0 ∷ 3 ∷ []; number = 4 }
+          ∷ record { c = 1; recipe = 0 ∷ 4 ∷ 16 ∷ 0 ∷ 3 ∷ []; number = 4 }
+          ∷ record { c = 1; recipe = 32 ∷ 132 ∷ 0 ∷ 0 ∷ 2 ∷ []; number = 5 }
+          ∷ record { c = 1; recipe = 32 ∷ 4 ∷ 16 ∷ 0 ∷ 2 ∷ []; number = 5 }
+          ∷ record { c = 1; recipe = 32 ∷ 4 ∷ 0 ∷ 0 ∷ 4 ∷ []; number = 6 }
           ∷ [];
       written =
           record { c = 1; w = 16; recipe = []; bits = 16; clauses = 0; number = 0; words-used = 0; clauses-written = 0; highest = 16; y = pos 1 ∷ pos 2 ∷ pos 3 ∷ pos 4 ∷ pos 5 ∷ pos 6 ∷ pos 7 ∷ pos 8 ∷ pos 9 ∷ pos 10 ∷ pos 11 ∷ pos 12 ∷ pos 13 ∷ pos 14 ∷ pos 15 ∷ pos 16 ∷ [] }

@@ -7,7 +7,7 @@
 use Prim.Native.Nat.{ℕ, suc, _≤_, _<_, max}
 use mathlib.Core.Path.{_≡_, refl, sym, ap, ap₂, _∙_, subst}
 use mathlib.Core.Logic.{⊎-elim}
-use mathlib.Core.Bool.{Bool, true, false, not, _&&_, _||_, Bool·beq, false≢true}
+use mathlib.Core.Bool.{Bool, true, false, not, _&&_, _||_, Bool·beq, false≢true, and-assoc}
 use mathlib.Core.List.{List, [], _∷_, _++_}
 use native.Mathlib.Decide.{ℕ-discrete}
 use native.Mathlib.Nat.{le-refl, le-suc, eq-or-lt-of-le, le-of-suc-le-suc, max-eq-left, max-eq-right}
@@ -27,10 +27,6 @@ and-right false b e = absurd (false≢true e)
 and-both : (a b : Bool) → a ≡ true → b ≡ true → a && b ≡ true
 and-both true b e f = f
 and-both false b e f = e
-
-and-assoc : (a b c : Bool) → (a && b) && c ≡ a && (b && c)
-and-assoc true b c = refl
-and-assoc false b c = refl
 
 pub satisfies-append : (α : Assignment) (cs ds : List Clause) → satisfies α (cs ++ ds) ≡ satisfies α cs && satisfies α ds
 satisfies-append α [] ds = refl

@@ -1,12 +1,3 @@
 pub mod Place
-pub mod Decimal
-pub mod Sign
-pub mod Rows
-pub mod Asking
-pub mod Says
-pub mod ReadsBack
 pub mod Shown
 pub mod Planning
-pub mod Filed
-pub mod Program
-pub mod Cases

@@ -32,12 +32,12 @@ use Rattle.product.specs.Write.{not-a-width, y-length, write-answer}
 use Rattle.product.specs.declared.Written.{Written}
 use Rattle.product.proofs.BitLengths.{columns-le}
 use Rattle.product.proofs.Success.{passes, passes-all}
-use Rattle.dimacs.specs.File.{refused-text}
-use Rattle.dimacs.specs.Print.{product-text, answered, printed-by, printed}
-use Rattle.dimacs.specs.Request.{asked}
-use Rattle.dimacs.specs.declared.Request.{Request}
+use Rattle.wording.specs.File.{refused-text}
+use Rattle.wording.specs.Print.{product-text, answered, printed-by, printed}
+use Rattle.wording.specs.Request.{asked}
+use Rattle.wording.specs.declared.Request.{Request}
 use Rattle.dimacs.specs.Steps.{answer-text, recipe-text, Planned-fits, planned-text}
-use Rattle.dimacs.specs.declared.Request.the-variants.{Asked}
+use Rattle.wording.specs.declared.Request.the-variants.{Asked}
 use Rattle.product.proofs.Bounds.{few-words}
 
 -- ---- a recipe of at most 8 lines, none of more than 16 bits

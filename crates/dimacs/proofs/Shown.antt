@@ -11,8 +11,8 @@ use Rattle.product.specs.Demand.{Result, words-at-exit, entries-at-exit}
 use Rattle.product.specs.declared.Written.{Written}
 use Rattle.product.specs.declared.Written.the-variants.{Clauses, Refused}
 use Rattle.product.proofs.Success.{answer-of, success}
-use Rattle.dimacs.specs.File.{file-text}
-use Rattle.dimacs.specs.Print.{product-text}
+use Rattle.wording.specs.File.{file-text}
+use Rattle.wording.specs.Print.{product-text}
 use Rattle.dimacs.specs.Steps.{Written-fits, written-text, answer-text, recipe-text}
 
 pub fits-as : {a b : Written} (bits words : ℕ) → a ≡ b → Written-fits a bits words → Written-fits b bits words

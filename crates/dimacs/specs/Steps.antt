@@ -11,8 +11,8 @@ use Rattle.product.specs.Product.{Product, product-of}
 use Rattle.product.specs.Write.{write-answer}
 use Rattle.product.specs.declared.Written.{Written}
 use Rattle.product.specs.declared.Written.the-variants.{Clauses, Refused}
-use Rattle.dimacs.specs.File.{file-text, refused-text}
-use Rattle.dimacs.specs.Print.{product-text}
+use Rattle.wording.specs.File.{file-text, refused-text}
+use Rattle.wording.specs.Print.{product-text}
 
 -- ---- writing
 

@@ -5,18 +5,9 @@ mod print;
 mod read;
 mod text;
 
+use wording::Printed;
 ghost use mathlib.Core.Path.{_≡_};
-ghost use Rattle.dimacs.specs.Print.{filed, bytes-put, Counts};
-
-pub enum Request {
-    Asked(u32, u32),
-    Malformed,
-}
-
-pub enum Printed {
-    Bytes(usize),
-    Short,
-}
+ghost use Rattle.wording.specs.Print.{filed};
 
 // Every file fits into a room of this length.
 pub const ROOM: usize = 262_144;
@@ -30,20 +21,4 @@ pub fn file(input: &[u8], out: &mut [u8]) -> Printed
         return Printed::Short;
     }
     Printed::Bytes(print::put_answer(out, input))
-}
-
-// How many bytes of a room an answer counts. The second promise is what `&room[..n]` asks for.
-pub fn bytes_put(printed: Printed, room: &[u8]) -> usize
-    ensures { λ r. ⌜ r ≡ bytes-put printed (now (room .entry)) ⌝ }
-    ensures { λ r. ⌜ Counts r (now (room .entry)) ⌝ }
-{
-    match printed {
-        Printed::Short => 0,
-        Printed::Bytes(n) => {
-            if room.len() < n {
-                return room.len();
-            }
-            n
-        }
-    }
 }

@@ -4,7 +4,7 @@ ghost use mathlib.Core.List.{[], _∷_};
 ghost use Prim.Native.Nat.{_+_, _≤_, _<_};
 ghost use lib.ListN.{length};
 ghost use lib.IntN.{natAbs};
-ghost use Rattle.dimacs.specs.Decimal.{decimal, signed-decimal};
+ghost use Rattle.wording.specs.Decimal.{decimal, signed-decimal};
 ghost use Rattle.dimacs.specs.Put.{Put};
 
 pub(crate) fn put_byte(out: &mut [u8], at: usize, b: u8) -> usize

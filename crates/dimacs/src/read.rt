@@ -1,10 +1,10 @@
 // The request as it is read.
-use crate::Request;
+use wording::Request;
 ghost use mathlib.Core.Path.{_≡_};
 ghost use Prim.Native.Nat.{_-_, _≤_};
 ghost use lib.ListN.{length};
-ghost use Rattle.dimacs.specs.Decimal.{value-of};
-ghost use Rattle.dimacs.specs.Request.{front as front·of, asked, width-asked};
+ghost use Rattle.wording.specs.Decimal.{value-of};
+ghost use Rattle.wording.specs.Request.{front as front·of, asked, width-asked};
 
 // How many digits stand in front.
 fn front(s: &[u8]) -> usize

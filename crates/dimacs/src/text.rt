@@ -1,22 +1,29 @@
-// The file and the refusal, put at a place of a lent room.
+// The file and its parts, put at a place of a lent room.
 use crate::number::put_byte;
 use crate::number::put_bytes;
 use crate::number::put_decimal;
 use crate::number::put_signed;
 ghost use Prim.Native.Nat.{_+_, _*_, _≤_};
 ghost use lib.ListN.{length};
-ghost use Rattle.dimacs.specs.File.{two-numbers, entries, line-2, word-text, words-text, file-text, refused-text};
+ghost use Rattle.wording.specs.File.{number-text, two-numbers, entries, line-2, word-text, words-text, file-text};
 ghost use Rattle.dimacs.specs.Put.{Put};
+
+// A name, a number and a byte behind it.
+pub(crate) fn put_number(out: &mut [u8], at: usize, name: &[u8], n: u64, last: u8) -> usize
+    requires { ⌜ at + (length (now name) + 21) ≤ length (now out) ⌝ }
+    ensures { λ r. ⌜ Put (now (out .entry)) (now (out .exit)) at r (number-text (now (name .entry)) n last) × (r ≤ at + (length (now (name .entry)) + 21)) ⌝ }
+{
+    let a = put_bytes(out, at, name);
+    let b = put_decimal(out, a, n);
+    put_byte(out, b, last)
+}
 
 fn put_two_numbers(out: &mut [u8], at: usize, name: &[u8], m: u64, n: u64) -> usize
     requires { ⌜ at + (length (now name) + 42) ≤ length (now out) ⌝ }
     ensures { λ r. ⌜ Put (now (out .entry)) (now (out .exit)) at r (two-numbers (now (name .entry)) m n) × (r ≤ at + (length (now (name .entry)) + 42)) ⌝ }
 {
-    let a = put_bytes(out, at, name);
-    let b = put_decimal(out, a, m);
-    let d = put_byte(out, b, b' ');
-    let e = put_decimal(out, d, n);
-    put_byte(out, e, b'\n')
+    let e = put_number(out, at, name, m, b' ');
+    put_number(out, e, b"", n, b'\n')
 }
 
 fn put_entries(out: &mut [u8], at: usize, ys: &[i32]) -> usize
@@ -82,13 +89,4 @@ pub(crate) fn put_file(
     let b = put_line_2(out, a, ys);
     let d = put_two_numbers(out, b, b"p cnf ", highest, clauses);
     put_words(out, d, words)
-}
-
-pub(crate) fn put_refused(out: &mut [u8], number: u64) -> usize
-    requires { ⌜ 29 ≤ length (now out) ⌝ }
-    ensures { λ r. ⌜ Put (now (out .entry)) (now (out .exit)) 0 r (refused-text number) ⌝ }
-{
-    let a = put_bytes(out, 0, b"refused ");
-    let b = put_decimal(out, a, number);
-    put_byte(out, b, b'\n')
 }

@@ -2,7 +2,7 @@
 --
 -- A call's contract fixes its answer and every room at exit as functions of what came in: `planned c work recipe`, `checked c recipe` and
 -- `written c w recipe bits clauses`, document 01 as definitions. So what is said here of these functions is said of the calls, and two results that
--- meet a contract are one (`planned-once`, `checked-once` and `one-result`, in the crates of the calls).
+-- meet a contract are one (Once.antt, of every public call).
 --
 -- Demand 1. Every call takes any constant, width, recipe and rooms: no contract has a condition on the caller. It refuses by document 01's numbers,
 -- exactly where they say: that is the text of the three functions. A refusal writes nothing (`planning-refused`, `writing-refused`): where the
@@ -14,7 +14,7 @@
 -- clause room each input x below 2^w extends to exactly one satisfying assignment, and there the entries of the bit room read as c * x
 -- (`each-input`). The planner gives the recipe that document 01's rules give and no other: a lookup that keeps the rule at every odd number of at
 -- most L bits is the one that planning uses (`rule-fixes-splits`); the planned recipe's lines claim the coefficients of c's set, each once
--- (`planned-coefficients`), and it is accepted (`planned-is-right`).
+-- (`planned-coefficients`), in order of bit length, then fewer zero bits, then value (`planned-order`), and it is accepted (`planned-is-right`).
 --
 -- Demand 3. For c from 1 to 65,535 with L bits in its odd part, the planned recipe has at most L div 2 lines, and never more than the nonzero digits of
 -- the odd part's non-adjacent form less one (`few-lines`), of which every positive number has exactly one (`one-form`). At width w its clauses, read
@@ -34,7 +34,7 @@ use Rattle.recipe.specs.declared.Checked.the-variants.{Accepted}
 use Rattle.recipe.proofs.Accepted.{accepted-right, right-accepted}
 use Rattle.split.specs.Reach.{member, set-of}
 use Rattle.split.specs.Choose.{lines, Rule, split-of}
-use Rattle.split.specs.Order.{coefficients, recipe-for, lines-bytes}
+use Rattle.split.specs.Order.{Earlier, coefficients, recipe-for, lines-bytes}
 use Rattle.split.specs.Form.{Digit, SignedForm, nonzero, signed-form}
 use Rattle.split.proofs.Choose.{only}
 use Rattle.split.proofs.Reach.{lines-depend}
@@ -45,6 +45,7 @@ use Rattle.plan.specs.Plan as plan
 use Rattle.plan.specs.Plan.{planned, plan-by, plan-answer, odd-bits}
 use Rattle.plan.specs.declared.Planned as plan-types
 use Rattle.plan.specs.declared.Planned.the-variants as plan-answers
+use Rattle.plan.proofs.Accepts as plan-laws
 use Rattle.plan.proofs.Accepts.{planned-accepted, planned-claims, planned-lines-half, planned-lines-form, planned-bits}
 use Rattle.product.specs.Product.{Product, product-of, clause-words}
 use Rattle.product.specs.Write.{written, write-by, write-answer, written-number, highest-variable, y-length}
@@ -113,6 +114,10 @@ module _ (c : ℕ) (least : 1 ≤ c) (most : c ≤ 65535) where
   pub planned-coefficients : ((i : ℕ) → i < length ks → coefficient-at bytes (suc i) ≡ getD ks i 0) × Distinct ks
       × ((x : ℕ) → member x ks ≡ member x (set-of split-of (odd-part c)))
   planned-coefficients = (planned-claims c least most, coefficients-distinct split-of (odd-part c), coefficients-members split-of (odd-part c))
+
+  -- and they stand in document 01's order
+  pub planned-order : (i : ℕ) → suc i < length ks → Earlier (getD ks i 0) (getD ks (suc i) 0)
+  planned-order = plan-laws.planned-order c least most
 
   -- ---- demand 3
 

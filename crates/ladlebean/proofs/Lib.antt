@@ -1,3 +1,4 @@
+pub mod Once
 pub mod PlanCases
 pub mod Bench
 pub mod Demands

@@ -1,6 +1,6 @@
 -- The definition of planning gives the worked cases, by computation. Assumes nothing.
 use Prim.Native.Nat.{ℕ, _*_}
-use mathlib.Core.Path.{_≡_, refl}
+use mathlib.Core.Path.{_≡_, refl, subst}
 use mathlib.Core.List.{List, map}
 use lib.Count.{ones}
 use lib.ListN.{replicate, take}
@@ -14,6 +14,7 @@ use Rattle.plan.specs.Plan.{Outcome, planned-number, planned-lines, plan-answer
 use Rattle.cases.specs.Table.{Planned, PlanRooms}
 use Rattle.cases.specs.Bench.{bench}
 use Rattle.cases.specs.Agreed.{agreed, agreed-splits}
+use Rattle.wording.proofs.Cases.{agreed-lookup, agreed-lookup-is}
 
 -- planning in rooms of these lengths, every byte of which is 7
 abbrev pub outcome : (ℕ → ℕ) → ℕ → ℕ → ℕ → Outcome
@@ -40,12 +41,18 @@ pub bench-right : Right split-of (bench .planned)
 unfolding bench digits-by bit-length halvings-by twos odd-part kind-of low high left-at right-at legal-at follow reach-by fuel reach member add adds set-by set-of lines pick better best-below choose split-by split-for ones zero-bits rank key put-in ordered coefficients place-in operand line-for lines-bytes recipe-for plan-answer plan-outcome
 bench-right = refl
 
--- with the second engine's splits
+-- computed with the second engine's splits, which are the rule's
 
-pub agreed-right : Right (look agreed-splits) (agreed .planned)
+by-table : Right agreed-lookup (agreed .planned)
 unfolding agreed agreed-splits look splits-from splits digits-by bit-length halvings-by twos odd-part kind-of low high left-at right-at follow reach-by fuel reach member add adds set-of ones zero-bits rank key put-in ordered coefficients place-in operand line-for lines-bytes recipe-for plan-answer plan-outcome
-agreed-right = refl
+by-table = refl
 
-pub agreed-rooms-right : RoomsRight (look agreed-splits) (agreed .plan-rooms)
+rooms-by-table : RoomsRight agreed-lookup (agreed .plan-rooms)
 unfolding agreed agreed-splits look splits-from splits digits-by bit-length halvings-by twos odd-part kind-of low high left-at right-at follow reach-by fuel reach member add adds set-of ones zero-bits rank key put-in ordered coefficients place-in operand line-for lines-bytes recipe-for plan-answer plan-outcome
-agreed-rooms-right = refl
+rooms-by-table = refl
+
+pub agreed-right : Right split-of (agreed .planned)
+agreed-right = subst (λ (t : ℕ → ℕ). Right t (agreed .planned)) agreed-lookup-is by-table
+
+pub agreed-rooms-right : RoomsRight split-of (agreed .plan-rooms)
+agreed-rooms-right = subst (λ (t : ℕ → ℕ). RoomsRight t (agreed .plan-rooms)) agreed-lookup-is rooms-by-table

@@ -1,16 +1,19 @@
 -- Bit length, and c = d * 2^t with d odd: each a digit at a time, and what each says of the number.
 -- The counts of the machine, leading and trailing zeros, are these. Assumes nothing.
 use mathlib.Core.Path.{_≡_, refl, sym, ap, _∙_, subst}
-use mathlib.Core.Logic.{⊎-elim}
+use mathlib.Core.Logic.{_⊎_, inl, inr, ⊎-elim}
 use Prim.Native.Nat.{ℕ, zero, suc, _+_, _*_, _/_, _%_, _^_, _≤_, _<_}
 use native.Mathlib.Nat.{two-pow-succ, pow-suc, mul-assoc, le-refl, le-antisymm, eq-zero-or-pos, lt-of-not-le, not-suc-le-zero, le-of-suc-le-suc, mul-le-mul-left}
-use native.Mathlib.Decide.{ℕ-discrete}
+use native.Mathlib.Decide.{decLt, ℕ-discrete}
 use native.Mathlib.Omega.{arith}
 use lib.Arith.{half-le, bin-ind}
 use lib.Pow.{pow-pos, shr-shr, shr-le}
 use lib.Count.{leadingZeros, leading-length, trailingZeros}
 use borrow.Author.Tests.{eq-eqb, ne-eqb}
 use Rattle.line.specs.Number.{digits-by, bit-length, halvings-by, twos, odd-part}
+
+pub lt-or-le : (a b : ℕ) → (a < b) ⊎ (b ≤ a)
+lt-or-le a b = elim (decLt a b) [ yes h ↦ inl h | no h ↦ inr (omega arith) ]
 
 -- ---- bit length, a digit at a time
 

@@ -48,26 +48,15 @@ impl Line {
         }
     }
 
-    pub fn splus(left: usize, shift: u64, right: usize, coefficient: u64) -> Self
-        ensures { λ r. ⌜ r ≡ record { top = 0; kind = 1; left = left; shift = shift; right = right; coefficient = coefficient } ⌝ }
+    // The line that five bytes are; a byte that is missing counts as 0.
+    pub fn read(part: &[u8]) -> Self
+        ensures { λ r. ⌜ r ≡ line-of (number (now (part .entry))) ⌝ }
     {
-        Line::made(Line::SPLUS, left, shift, right, coefficient)
-    }
-
-    pub fn sminus(left: usize, shift: u64, right: usize, coefficient: u64) -> Self
-        ensures { λ r. ⌜ r ≡ record { top = 0; kind = 2; left = left; shift = shift; right = right; coefficient = coefficient } ⌝ }
-    {
-        Line::made(Line::SMINUS, left, shift, right, coefficient)
-    }
-
-    pub fn minuss(left: usize, shift: u64, right: usize, coefficient: u64) -> Self
-        ensures { λ r. ⌜ r ≡ record { top = 0; kind = 3; left = left; shift = shift; right = right; coefficient = coefficient } ⌝ }
-    {
-        Line::made(Line::MINUSS, left, shift, right, coefficient)
+        unpacked(joined(part))
     }
 
     // The forty bits; of a field only the bits that the form gives it.
-    pub fn packed(self) -> u64
+    fn packed(self) -> u64
         ensures { λ r. ⌜ (r ≡ forty-bits self) × (r < 2 ^ 40) ⌝ }
     {
         let a = join(0, 1, self.top);
@@ -134,13 +123,6 @@ fn unpacked(v: u64) -> Line
         right: ((v >> 20) & 63) as usize,
         coefficient: v & Line::MOST_COEFFICIENT,
     }
-}
-
-// The line that five bytes are; a byte that is missing counts as 0.
-pub fn read_line(part: &[u8]) -> Line
-    ensures { λ r. ⌜ r ≡ line-of (number (now (part .entry))) ⌝ }
-{
-    unpacked(joined(part))
 }
 
 // The number of binary digits of v.

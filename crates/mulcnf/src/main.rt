@@ -1,6 +1,7 @@
 // The program: what `dimacs` answers to standard input goes to standard output.
 use libc::STDIN_FILENO;
 use libc::STDOUT_FILENO;
+use wording::Printed;
 ghost use mathlib.Core.Path.{_≡_};
 ghost use lib.ListN.{length};
 
@@ -16,6 +17,8 @@ fn main() {
     let n = io::read_full(STDIN_FILENO, &mut input);
     let mut out = room();
     let printed = dimacs::file(&input[..n], &mut out);
-    let k = dimacs::bytes_put(printed, &out);
+    let Printed::Bytes(k) = printed else {
+        return;
+    };
     io::write_all(STDOUT_FILENO, &out[..k]);
 }

@@ -15,11 +15,11 @@ use Rattle.split.specs.Reach.{adds, member, reach, set-by, set-of, turn}
 use Rattle.split.specs.Split.{kind, left, right}
 use Rattle.plan.specs.Steps.{Counted}
 use Rattle.line.proofs.Number.{bits-le, bits-lt, bits-pos}
-use Rattle.split.proofs.Choose.{lt-or-le, splits-legal}
+use Rattle.split.proofs.Choose.{splits-legal}
 use Rattle.split.proofs.Closed.{Has, later, reach-self, spread}
-use Rattle.split.proofs.Reach.{Legal, lines-depend, turn-bits}
-use Rattle.split.proofs.Sets.{Distinct, Within, add-long, adds-distinct, adds-from, adds-has, adds-keeps, adds-lacks, adds-monotone, bool, fits-in, member-none, member-skip}
-use Rattle.split.proofs.Splits.{Operands, operands, pow-even}
+use Rattle.split.proofs.Reach.{Legal, lines-depend}
+use Rattle.split.proofs.Sets.{Distinct, Within, add-long, adds-distinct, adds-from, adds-has, adds-keeps, adds-lacks, bool, fits-in, member-none, member-skip}
+use Rattle.split.proofs.Splits.{Operand, Operands, operands, pow-even, shorter-turn}
 use native.Mathlib.Nat.{lt-of-not-le}
 
 -- one more than the whole of ys
@@ -27,16 +27,9 @@ over : (x : ℕ) (ys zs : List ℕ) → Distinct ys → member x ys ≡ false �
 over x ys zs d n m w = fits-in (x ∷ ys) zs (n, d)
     (λ y q. ⊎-elim (λ e. subst (λ (z : ℕ). member z zs ≡ true) (sym (eqb-true y x e)) m) (λ e. w y (sym (member-skip y x ys e) ∙ q)) (bool (eqb y x)))
 
--- what a shorter number reaches lacks a longer one
-short : (t : ℕ → ℕ) (x y : ℕ) → Legal t (suc (turn x)) → x % 2 ≡ 1 → bit-length x < 64 → bit-length x < bit-length y → member y (reach t x) ≡ false
-short t x y ok odd fits less = later t y x ok odd fits (⊎-elim (λ h. h) (λ h. absurd (omega (arith, turn-bits y x h))) (lt-or-le (turn x) (turn y)))
-
-module _ (k : List ℕ) (s n : ℕ) (h : Counted k s n) where
+module _ {k : List ℕ} {s n : ℕ} (h : Counted k s n) where
   ops : Operands (kind s) (s % 32) n (left s n) (right s n)
   ops = operands s n (h .big) (h .odd) (omega (arith, h .few)) (h .is-legal)
-
-  ok-to : (x : ℕ) → turn x < turn n → Legal split-of (suc (turn x))
-  ok-to x less m b o r = splits-legal lines lines-depend n (h .few) m b o (omega arith)
 
   L : List ℕ
   L = reach split-of (left s n)
@@ -44,97 +37,92 @@ module _ (k : List ℕ) (s n : ℕ) (h : Counted k s n) where
   Q : List ℕ
   Q = reach split-of (right s n)
 
-  okL : Legal split-of (suc (turn (left s n)))
-  okL = ok-to (left s n) (ops .left-turn)
+  all : List ℕ
+  all = adds Q (adds L [])
 
-  okQ : Legal split-of (suc (turn (right s n)))
-  okQ = ok-to (right s n) (ops .right-turn)
+  -- ---- an operand
+  module _ {x : ℕ} (o : Operand n x) where
+    legal-to : Legal split-of (suc (turn x))
+    legal-to m b d r = splits-legal lines lines-depend n (h .few) m b d (omega (arith, o .turn))
 
-  fitsL : bit-length (left s n) < 64
-  fitsL = omega (arith, h .few, ops .left-bits)
+    fits : bit-length x < 64
+    fits = omega (arith, h .few, o .bits)
 
-  fitsQ : bit-length (right s n) < 64
-  fitsQ = omega (arith, h .few, ops .right-bits)
+    -- above 1 it is reached
+    itself : 1 < x → member x (reach split-of x) ≡ true
+    unfolding Has
+    itself big = ⊎-elim (λ e. absurd (omega arith)) (λ m. m) (reach-self split-of x legal-to (o .odd) fits)
 
-  count-is : lines split-of s n ≡ suc (length (adds Q (adds L [])))
-  unfolding lines set-by L Q
+    -- what comes later is not
+    lacks : (y : ℕ) → turn x < turn y → member y (adds (reach split-of x) []) ≡ false
+    lacks y less = adds-lacks y (reach split-of x) [] (member-none y) (later split-of y x legal-to (o .odd) fits less)
+
+    index : x / 2 < length k
+    index = omega (arith, h .wide, bits-lt x, pow-even (bit-length x) (bits-pos x (omega (arith, o .odd))), pow-mono {i = bit-length x - 1} {j = bit-length n - 1} (omega (arith, o .bits)))
+
+  count-is : lines split-of s n ≡ suc (length all)
+  unfolding lines set-by all L Q
   count-is = ap (λ (z : List ℕ). length z) (spread split-of s n [])
-      ∙ add-long n (adds Q (adds L []))
-      (adds-lacks n Q (adds L []) (adds-lacks n L [] (member-none n) (later split-of n (left s n) okL (ops .left-odd) fitsL (ops .left-turn)))
-      (later split-of n (right s n) okQ (ops .right-odd) fitsQ (ops .right-turn)))
+      ∙ add-long n (adds Q (adds L [])) (adds-lacks n Q (adds L []) (lacks (ops .left) n (ops .left .turn)) (later split-of n (right s n) (legal-to (ops .right)) (ops .right .odd) (fits (ops .right)) (ops .right .turn)))
 
-  in-both : Within (adds Q []) (adds Q (adds L []))
-  in-both x m = ⊎-elim (λ z. absurd (false≢true (sym (member-none x) ∙ z))) (λ q. adds-has Q (adds L []) x q) (adds-from Q [] x m)
+  in-left : Within (adds L []) all
+  unfolding all
+  in-left x m = adds-keeps Q (adds L []) x m
 
-  over-left : suc (line-count split-of (left s n)) ≤ lines split-of s n
-  unfolding line-count set-of L Q
-  over-left = omega (arith, count-is, adds-monotone Q (adds L []))
+  in-right : Within (adds Q []) all
+  unfolding all
+  in-right x m = ⊎-elim (λ z. absurd (false≢true (sym (member-none x) ∙ z))) (λ q. adds-has Q (adds L []) x q) (adds-from Q [] x m)
 
-  over-right : suc (line-count split-of (right s n)) ≤ lines split-of s n
-  unfolding line-count set-of L Q
-  over-right = omega (arith, count-is, fits-in (adds Q []) (adds Q (adds L [])) (adds-distinct Q [] tt) in-both)
+  -- the split has more lines than an operand p, and two more where another operand is longer
+  module _ {p : ℕ} (o : Operand n p) (in-p : Within (adds (reach split-of p) []) all) where
+    above : suc (line-count split-of p) ≤ lines split-of s n
+    unfolding line-count set-of
+    above = omega (arith, count-is, fits-in (adds (reach split-of p) []) all (adds-distinct (reach split-of p) [] tt) in-p)
 
-  -- an operand above 1 is reached
-  itself : (x : ℕ) → Legal split-of (suc (turn x)) → x % 2 ≡ 1 → bit-length x < 64 → 1 < x → member x (reach split-of x) ≡ true
-  unfolding Has
-  itself x ok odd fits big = ⊎-elim (λ e. absurd (omega arith)) (λ m. m) (reach-self split-of x ok odd fits)
-
-  large : (x y : ℕ) → x % 2 ≡ 1 → bit-length x < bit-length y → 1 < y
-  large x y odd less = lt-of-not-le (λ g. omega (arith, bits-le 1 y (omega arith), bits-pos x (omega arith)))
-
-  far-left : bit-length (left s n) < bit-length (right s n) → suc (suc (line-count split-of (left s n))) ≤ lines split-of s n
-  unfolding line-count set-of L Q
-  far-left less =
-      let big : 1 < right s n = large (left s n) (right s n) (ops .left-odd) less in
-      omega (
-        arith,
-        count-is,
-        over (right s n) (adds L []) (adds Q (adds L [])) (adds-distinct L [] tt)
-            (adds-lacks (right s n) L [] (member-none (right s n)) (short split-of (left s n) (right s n) okL (ops .left-odd) fitsL less))
-            (adds-has Q (adds L []) (right s n) (itself (right s n) okQ (ops .right-odd) fitsQ big))
-            (λ y m. adds-keeps Q (adds L []) y m),
-      )
-
-  far-right : bit-length (right s n) < bit-length (left s n) → suc (suc (line-count split-of (right s n))) ≤ lines split-of s n
-  unfolding line-count set-of L Q
-  far-right less =
-      let big : 1 < left s n = large (right s n) (left s n) (ops .right-odd) less in
-      omega (
-        arith,
-        count-is,
-        over (left s n) (adds Q []) (adds Q (adds L [])) (adds-distinct Q [] tt)
-            (adds-lacks (left s n) Q [] (member-none (left s n)) (short split-of (right s n) (left s n) okQ (ops .right-odd) fitsQ less))
-            (adds-keeps Q (adds L []) (left s n) (adds-has L [] (left s n) (itself (left s n) okL (ops .left-odd) fitsL big)))
-            in-both,
-      )
-
-  index : (x : ℕ) → 0 < x → bit-length x ≤ bit-length n → x / 2 < length k
-  index x pos few = omega (arith, h .wide, bits-lt x, pow-even (bit-length x) (bits-pos x pos), pow-mono {i = bit-length x - 1} {j = bit-length n - 1} (omega arith))
+    far : {q : ℕ} (u : Operand n q) (in-q : Within (adds (reach split-of q) []) all) → bit-length p < bit-length q → suc (suc (line-count split-of p)) ≤ lines split-of s n
+    unfolding line-count set-of
+    far {q} u in-q less =
+        let big : 1 < q = lt-of-not-le (λ g. omega (arith, bits-le 1 q (omega arith), bits-pos p (omega (arith, o .odd)))) in
+        omega (
+          arith,
+          count-is,
+          over q (adds (reach split-of p) []) all (adds-distinct (reach split-of p) [] tt) (lacks o q (shorter-turn p q less)) (in-q q (adds-has (reach split-of q) [] q (itself u big))) in-p,
+        )
 
 -- ---- what the counts of the operands x and y say of the split: c is read at x, d at y
-module _ (k : List ℕ) (s n x y : ℕ) (h : Counted k s n × (x ≡ left s n) × (y ≡ right s n)) where
+module _ {k : List ℕ} {s n x y : ℕ} (h : Counted k s n × (x ≡ left s n) × (y ≡ right s n)) where
+  left-is : Operand n x
+  left-is = subst (λ (z : ℕ). Operand n z) (sym (h .1)) (ops (h .0) .left)
+
+  right-is : Operand n y
+  right-is = subst (λ (z : ℕ). Operand n z) (sym (h .2)) (ops (h .0) .right)
+
+  has-left : Within (adds (reach split-of x) []) (all (h .0))
+  unfolding L
+  has-left = subst (λ (z : ℕ). Within (adds (reach split-of z) []) (all (h .0))) (sym (h .1)) (in-left (h .0))
+
+  has-right : Within (adds (reach split-of y) []) (all (h .0))
+  unfolding Q
+  has-right = subst (λ (z : ℕ). Within (adds (reach split-of z) []) (all (h .0))) (sym (h .2)) (in-right (h .0))
+
   pub left-in : x / 2 < length k
-  left-in = subst (λ (z : ℕ). z / 2 < length k) (sym (h .1)) (index k s n (h .0) (left s n) (ops k s n (h .0) .left-least) (ops k s n (h .0) .left-bits))
+  left-in = index (h .0) left-is
 
   pub right-in : y / 2 < length k
-  right-in = subst (λ (z : ℕ). z / 2 < length k) (sym (h .2)) (index k s n (h .0) (right s n) (ops k s n (h .0) .right-least) (ops k s n (h .0) .right-bits))
+  right-in = index (h .0) right-is
 
-  left-count : (c : ℕ) → c ≡ getD k (x / 2) 0 → c ≡ line-count split-of (left s n)
+  read : {z : ℕ} → Operand n z → {c : ℕ} → c ≡ getD k (z / 2) 0 → c ≡ line-count split-of z
   unfolding look
-  left-count c q = q ∙ ap (λ (z : ℕ). getD k (z / 2) 0) (h .1) ∙ h .0 .counted (left s n) (ops k s n (h .0) .left-odd) (ops k s n (h .0) .left-turn)
+  read {z} o q = q ∙ h .0 .counted z (o .odd) (o .turn)
 
-  right-count : (d : ℕ) → d ≡ getD k (y / 2) 0 → d ≡ line-count split-of (right s n)
-  unfolding look
-  right-count d q = q ∙ ap (λ (z : ℕ). getD k (z / 2) 0) (h .2) ∙ h .0 .counted (right s n) (ops k s n (h .0) .right-odd) (ops k s n (h .0) .right-turn)
+  pub by-left : {c f : ℕ} → c ≡ getD k (x / 2) 0 → f ≤ c + 1 → f ≤ lines split-of s n
+  by-left q le = omega (arith, read left-is q, above (h .0) left-is has-left)
 
-  pub by-left : (c f : ℕ) → c ≡ getD k (x / 2) 0 → f ≤ c + 1 → f ≤ lines split-of s n
-  by-left c f q le = omega (arith, left-count c q, over-left k s n (h .0))
+  pub by-right : {d f : ℕ} → d ≡ getD k (y / 2) 0 → f ≤ d + 1 → f ≤ lines split-of s n
+  by-right q le = omega (arith, read right-is q, above (h .0) right-is has-right)
 
-  pub by-right : (d f : ℕ) → d ≡ getD k (y / 2) 0 → f ≤ d + 1 → f ≤ lines split-of s n
-  by-right d f q le = omega (arith, right-count d q, over-right k s n (h .0))
+  pub by-short-left : {c f : ℕ} → c ≡ getD k (x / 2) 0 → bit-length x < bit-length y → f ≤ c + 1 + 1 → f ≤ lines split-of s n
+  by-short-left q less le = omega (arith, read left-is q, far (h .0) left-is has-left right-is has-right less)
 
-  pub by-short-left : (c f : ℕ) → c ≡ getD k (x / 2) 0 → bit-length x < bit-length y → f ≤ c + 1 + 1 → f ≤ lines split-of s n
-  by-short-left c f q less le = omega (arith, left-count c q, far-left k s n (h .0) (omega (arith, ap bit-length (h .1), ap bit-length (h .2))))
-
-  pub by-short-right : (d f : ℕ) → d ≡ getD k (y / 2) 0 → bit-length y < bit-length x → f ≤ d + 1 + 1 → f ≤ lines split-of s n
-  by-short-right d f q less le = omega (arith, right-count d q, far-right k s n (h .0) (omega (arith, ap bit-length (h .1), ap bit-length (h .2))))
+  pub by-short-right : {d f : ℕ} → d ≡ getD k (y / 2) 0 → bit-length y < bit-length x → f ≤ d + 1 + 1 → f ≤ lines split-of s n
+  by-short-right q less le = omega (arith, read right-is q, far (h .0) right-is has-right left-is has-left less)

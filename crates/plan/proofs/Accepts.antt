@@ -28,7 +28,7 @@ use Rattle.line.specs.Number.{bit-length, odd-part}
 use Rattle.line.specs.declared.Line.{Line}
 use Rattle.split.specs.Choose.{line-count, lines, split-of}
 use Rattle.split.specs.Form.{Digit, SignedForm, nonzero}
-use Rattle.split.specs.Order.{coefficients, line-for, lines-bytes, operand, ordered, place-in, recipe-for}
+use Rattle.split.specs.Order.{Earlier, coefficients, line-for, lines-bytes, operand, ordered, place-in, recipe-for}
 use Rattle.split.specs.Reach.{adds, member, set-of, turn}
 use Rattle.split.specs.Split.{kind, left, legal, legal-at, right}
 use Rattle.plan.specs.Plan.{odd-bits}
@@ -40,6 +40,7 @@ use Rattle.split.proofs.Closed.{Has, set-bits, set-closed}
 use Rattle.split.proofs.Form.{lines-form}
 use Rattle.split.proofs.Lines.{lines-half}
 use Rattle.split.proofs.Order.{Found, coefficients-distinct, coefficients-last, coefficients-members, found, member-of, operand-1, operand-more, operands-earlier, ordered-has, ordered-length, place-at}
+use Rattle.split.proofs.Earlier.{coefficients-earlier}
 use Rattle.split.proofs.Reach.{Legal, lines-depend, odd-case, reach-1, turn-bits}
 use Rattle.split.proofs.Splits.{Operands, and₃, operands}
 use Rattle.plan.proofs.Bytes.{bytes-length, line-bytes-at, map-length}
@@ -107,11 +108,11 @@ module _ (t : ℕ → ℕ) (d : ℕ) (ok : Legal t (suc (turn d))) (odd : d % 2 
         coefficient = lt-bits 20 x (h .x-few);
       }
 
-  pub line-there : (i : ℕ) → i < length ks → line-at bytes i ≡ line-for t ks (getD ks i 0)
+  line-there : (i : ℕ) → i < length ks → line-at bytes i ≡ line-for t ks (getD ks i 0)
   unfolding recipe-for
   line-there i h = ap (λ (b : List ℕ). line-of (number b)) (line-bytes-at (line-for t ks) ks i h) ∙ round.read-packed (line-for t ks (getD ks i 0)) (sized (getD ks i 0) (member-of ks i h))
 
-  pub claims-there : (i : ℕ) → i < length ks → coefficient-at bytes (suc i) ≡ getD ks i 0
+  claims-there : (i : ℕ) → i < length ks → coefficient-at bytes (suc i) ≡ getD ks i 0
   unfolding line-for
   claims-there i h = ap (λ (l : Line). l .coefficient) (line-there i h)
 
@@ -165,7 +166,7 @@ module _ (t : ℕ → ℕ) (d : ℕ) (ok : Legal t (suc (turn d))) (odd : d % 2 
       let some : 0 < length ks = pos-of-ne-zero (λ z. omega (arith, last, nothing-at ks z)) in
       ap (coefficient-at bytes) {x = length bytes / 5} {y = suc (length ks - 1)} (omega (arith, lines-are)) ∙ claims-there (length ks - 1) (omega arith) ∙ last
 
-  pub makes : Makes d bytes
+  makes : Makes d bytes
   unfolding line-for
   makes = record {
     whole = omega (arith, bytes-are);
@@ -203,6 +204,13 @@ module _ (c : ℕ) (least : 1 ≤ c) (most : c ≤ 65535) where
   -- its lines claim the coefficients in order
   pub planned-claims : (i : ℕ) → i < length (coefficients split-of d) → coefficient-at (lines-bytes (recipe-for split-of d)) (suc i) ≡ getD (coefficients split-of d) i 0
   planned-claims = claims-there split-of d d-legal d-odd (omega (arith, d-few)) d-short
+
+  -- .. which is document 01's order
+  pub planned-order : (i : ℕ) → suc i < length (coefficients split-of d)
+      → Earlier (getD (coefficients split-of d) i 0) (getD (coefficients split-of d) (suc i) 0)
+  planned-order = coefficients-earlier split-of d
+      (λ i h. let ks = coefficients split-of d in
+      omega (arith, d-few, set-bits split-of d d-legal d-odd (omega (arith, d-few)) (getD ks i 0) (sym (coefficients-members split-of d (getD ks i 0)) ∙ member-of ks i h)))
 
   -- demand 3: at most L div 2 lines ..
   pub planned-lines-half : length (recipe-for split-of d) ≤ odd-bits c / 2

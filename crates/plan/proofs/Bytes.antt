@@ -1,37 +1,16 @@
--- Five bytes at a place, and the lines one after the other.
+-- The bytes of lines, one after the other.
 use Prim.Native.Nat.{ℕ, zero, suc, _+_, _*_, _/_, _%_, _≤_, _<_}
 use mathlib.Core.Path.{_≡_, refl, sym, ap, ap₂, _∙_}
 use mathlib.Core.List.{List, [], _∷_, _++_, map, append-assoc, append-nil}
 use native.Mathlib.Omega.{arith}
-use native.Mathlib.Numerals.{add-one, add-two, add-three, add-four}
-use lib.ListN.{length, set, take, drop, getD}
-use lib.Seq.{sets-eq, take-at, drop-at, drop-drop}
+use lib.ListN.{length, take, drop, getD}
+use lib.Seq.{take-at, drop-at, drop-drop}
 use Rattle.line.specs.Line.{bytes-of, forty-bits}
 use Rattle.line.specs.declared.Line.{Line}
 use Rattle.split.specs.Choose.{look}
 use Rattle.split.specs.Order.{line-for, lines-bytes, operand}
 use Rattle.split.specs.Split.{left, right}
 use Rattle.plan.proofs.Rooms.{more}
-
-five : (l : List ℕ) (at a b c d e : ℕ) → at + 5 ≤ length l
-    → set (set (set (set (set l at a) (at + 1) b) (at + 2) c) (at + 3) d) (at + 4) e ≡ take at l ++ (a ∷ b ∷ c ∷ d ∷ e ∷ []) ++ drop (at + 5) l
-five l at a b c d e h = rw (add-one at, add-two at, add-three at, add-four at) (sets-eq (a ∷ b ∷ c ∷ d ∷ e ∷ []) l at h)
-
-five-are : (b : List ℕ) → length b ≡ 5 → getD b 0 0 ∷ getD b 1 0 ∷ getD b 2 0 ∷ getD b 3 0 ∷ getD b 4 0 ∷ [] ≡ b
-five-are [] h = absurd (omega arith)
-five-are (x ∷ []) h = absurd (omega arith)
-five-are (x ∷ y ∷ []) h = absurd (omega arith)
-five-are (x ∷ y ∷ z ∷ []) h = absurd (omega arith)
-five-are (x ∷ y ∷ z ∷ u ∷ []) h = absurd (omega arith)
-five-are (x ∷ y ∷ z ∷ u ∷ v ∷ []) h = refl
-five-are (x ∷ y ∷ z ∷ u ∷ v ∷ w ∷ b) h = absurd (omega arith)
-
-pub bytes-at : (l : List ℕ) (at : ℕ) (b : List ℕ) → at + 5 ≤ length l → length b ≡ 5
-    → set (set (set (set (set l at (getD b 0 0)) (at + 1) (getD b 1 0)) (at + 2) (getD b 2 0)) (at + 3) (getD b 3 0)) (at + 4) (getD b 4 0)
-    ≡ take at l ++ b ++ drop (at + 5) l
-bytes-at l at b h k = five l at (getD b 0 0) (getD b 1 0) (getD b 2 0) (getD b 3 0) (getD b 4 0) h ∙ ap (λ (z : List ℕ). take at l ++ z ++ drop (at + 5) l) (five-are b k)
-
--- ---- the lines
 
 pub bytes-length : (ls : List Line) → length (lines-bytes ls) ≡ 5 * length ls
 unfolding lines-bytes
@@ -74,11 +53,11 @@ module _ (f : ℕ → Line) where
       ∙ ap (λ (z : List ℕ). z ++ drop (5 * (i + 1)) r₀) (sym (bytes-snoc (take i l) (getD l i 0)) ∙ ap (λ (z : List ℕ). lines-bytes (map f z)) (sym (more l i h)))
 
 -- a line by the byte that was read, and by the operands that were found
-pub line-is : (l ks : List ℕ) (x c u a v b : ℕ) → c ≡ getD l (x / 2) 0 → u ≡ left c x → a ≡ operand u ks → v ≡ right c x → b ≡ operand v ks
+pub line-is : (l ks : List ℕ) (x : ℕ) {c u a v b : ℕ} → c ≡ look l x → u ≡ left c x → a ≡ operand u ks → v ≡ right c x → b ≡ operand v ks
     → record { top = 0; kind = c / 32; left = a; shift = c % 32; right = b; coefficient = x } ≡ line-for (look l) ks x
-unfolding line-for look
-line-is l ks x c u a v b e d f g h =
-    let T : ℕ = getD l (x / 2) 0 in
+unfolding line-for
+line-is l ks x {c} {u} {a} {v} {b} e d f g h =
+    let T : ℕ = look l x in
     let ea : a ≡ operand (left T x) ks = f ∙ ap (λ (z : ℕ). operand z ks) (d ∙ ap (λ (z : ℕ). left z x) e) in
     let eb : b ≡ operand (right T x) ks = h ∙ ap (λ (z : ℕ). operand z ks) (g ∙ ap (λ (z : ℕ). right z x) e) in
     λ i. record { top = 0; kind = e i / 32; left = ea i; shift = e i % 32; right = eb i; coefficient = x }

@@ -5,7 +5,7 @@ use mathlib.Core.Bool.{Bool, true, false, _&&_, false≢true}
 use lib.Dec.{leb}
 use borrow.Author.Tests.{lt-leb}
 use mathlib.Core.List.{List}
-use native.Mathlib.Nat.{le-refl, pos-of-ne-zero}
+use native.Mathlib.Nat.{pos-of-ne-zero}
 use native.Mathlib.Omega.{arith}
 use lib.ListN.{length}
 use Rattle.line.specs.Line.{Kind, kind-of, minuss, sminus, splus}
@@ -30,7 +30,7 @@ as-right k p n h = ap₂ (λ (a b : ℕ). right-at (kind-of a) b n) {x = k} {y =
 abbrev best : ℕ → ℕ → Best
 best s k = record { split = s; cost = k }
 
-module _ (l k : List ℕ) (n : ℕ) (h : Known l k n) where
+module _ {l k : List ℕ} {n : ℕ} (h : Known l k n) where
   agree : Agree (look l) split-of (turn n)
   agree m big odd less = h .agrees m odd less
 
@@ -48,12 +48,12 @@ module _ (l k : List ℕ) (n : ℕ) (h : Known l k n) where
     small : lines (look l) s n ≤ 32
     small =
         let o = ops in
-        omega (arith, same, lines-both split-of s n, lines-half (left s n) (o .left-odd) (omega (arith, h .few)), lines-half (right s n) (o .right-odd) (omega (arith, h .few)), h .few)
+        omega (arith, same, lines-both split-of s n, lines-half (left s n) (o .left .odd) (omega (arith, h .few)), lines-half (right s n) (o .right .odd) (omega (arith, h .few)), h .few)
 
     counts : Counted k s n
     counts = record { big = h .big; odd = h .odd; few = h .few; wide = h .wide; is-legal = ok; counted = h .counted }
 
-    start : (a : List ℕ) → length a ≡ 32 → Ready l a 0 s n (turn n)
+    start : (a : List ℕ) → length a ≡ 32 → Ready l a 0 s n
     unfolding lines set-by
     start a full = record {
       big = h .big;
@@ -61,7 +61,6 @@ module _ (l k : List ℕ) (n : ℕ) (h : Known l k n) where
       few = h .few;
       is-legal = ok;
       long = h .long;
-      far = le-refl (turn n);
       legals = legals;
       full = full;
       within = omega arith;
@@ -71,17 +70,16 @@ module _ (l k : List ℕ) (n : ℕ) (h : Known l k n) where
     }
 
   -- ---- a split of the kind j at p against the best so far
-  module _ (j p : ℕ) (sp : Splits j p n) where
+  module _ {j p : ℕ} (sp : Splits j p n) where
     ok : legal (32 * j + p) n ≡ true
     ok = as-legal j p n (sp .one) (sp .three) (sp .short) ∙ sp .is-legal
 
-    pub count-asks : (a : List ℕ) → length a ≡ 32 → (x y : ℕ) → x ≡ left-at (kind-of j) p n → y ≡ right-at (kind-of j) p n
-        → Ready l a 0 (32 * j + p) n (turn n) × (x ≡ left (32 * j + p) n) × (y ≡ right (32 * j + p) n)
-    count-asks a full x y d e = (start (32 * j + p) ok a full, d ∙ as-left j p n (sp .short), e ∙ as-right j p n (sp .short))
+    pub walk-asks : (a : List ℕ) → length a ≡ 32 → Ready l a 0 (32 * j + p) n
+    walk-asks a full = start (32 * j + p) ok a full
 
-    pub hopeless-asks : (x y : ℕ) → x ≡ left-at (kind-of j) p n → y ≡ right-at (kind-of j) p n
+    pub hopeless-asks : {x y : ℕ} → x ≡ left-at (kind-of j) p n → y ≡ right-at (kind-of j) p n
         → Counted k (32 * j + p) n × (x ≡ left (32 * j + p) n) × (y ≡ right (32 * j + p) n)
-    hopeless-asks x y d e = (counts (32 * j + p) ok, d ∙ as-left j p n (sp .short), e ∙ as-right j p n (sp .short))
+    hopeless-asks d e = (counts (32 * j + p) ok, d ∙ as-left j p n (sp .short), e ∙ as-right j p n (sp .short))
 
     pub found-first : (b : Best) (c : ℕ) → b .split ≡ 0 → c ≡ lines (look l) (32 * j + p) n → record { split = 32 * j + p; cost = c } ≡ better lines (look l) n (32 * j + p) b
     found-first b c z e = sym (better-is lines (look l) n (32 * j + p) b ok ∙ pick-none (32 * j + p) (lines (look l) (32 * j + p) n) b z

@@ -1,4 +1,4 @@
--- What the contract of planning fixes: the answer and both rooms. A room of exactly the needed length passes, and one byte less is refused, at every L;
+-- What planning leaves in its rooms. A room of exactly the needed length passes, and one byte less is refused, at every L;
 -- after success the recipe room's first bytes are the planned recipe's.
 use Prim.Native.Nat.{ℕ, suc, _-_, _*_, _/_, _^_, _≤_}
 use mathlib.Core.Path.{_≡_, refl, sym, ap, _∙_}
@@ -11,14 +11,9 @@ use Rattle.line.specs.declared.Refusal.the-variants.{RecipeRoom, WorkRoom}
 use Rattle.split.specs.Choose.{split-of}
 use Rattle.split.specs.Order.{lines-bytes, recipe-for}
 use Rattle.plan.specs.Plan.{Outcome, odd-bits, plan-by, planned}
-use Rattle.plan.specs.declared.Planned.{Planned}
 use Rattle.plan.specs.declared.Planned.the-variants.{Lines, Refused}
 use Rattle.plan.proofs.Bytes.{bytes-length}
-use Rattle.plan.proofs.Plans.{AsPlanned, planned-by, refused-recipe, refused-work, success}
-
--- two results that meet the contract are the same
-pub planned-once : (c : ℕ) (w r : List ℕ) (a b : Planned) (w₁ w₂ r₁ r₂ : List ℕ) → AsPlanned c w r a w₁ r₁ → AsPlanned c w r b w₂ r₂ → (a ≡ b) × (w₁ ≡ w₂) × (r₁ ≡ r₂)
-planned-once c w r a b w₁ w₂ r₁ r₂ p q = (p .0 ∙ sym (q .0), p .1 ∙ sym (q .1), p .2 ∙ sym (q .2))
+use Rattle.plan.proofs.Plans.{planned-by, refused-recipe, refused-work, success}
 
 module _ (c : ℕ) (w r : List ℕ) (least : 1 ≤ c) (most : c ≤ 65535) where
   some : c ≡ 0 → ⊥

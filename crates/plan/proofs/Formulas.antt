@@ -1,6 +1,6 @@
 -- The formulas of the kinds as the code computes them: with the power at hand, kind by kind.
 use Prim.Native.Nat.{ℕ, _+_, _-_, _*_, _/_, _%_, _^_, _≤_, _<_}
-use mathlib.Core.Path.{_≡_, sym, ap, ap₂, _∙_, subst}
+use mathlib.Core.Path.{_≡_, refl, _∙_, subst}
 use mathlib.Core.Bool.{true, false}
 use native.Mathlib.Nat.{one-mul}
 use native.Mathlib.Omega.{arith}
@@ -10,7 +10,8 @@ use borrow.Author.Tests.{ltb-true, le-leb, lt-leb, lt-ltb, le-ltb}
 use Rattle.line.specs.Line.{kind-of, minuss, sminus, splus}
 use Rattle.line.specs.Number.{bit-length}
 use Rattle.split.specs.Split.{high, left-at, legal-at, low, right-at}
-use Rattle.split.proofs.Splits.{and₃}
+use Rattle.plan.specs.Steps.{Splits}
+use Rattle.split.proofs.Splits.{and₃, high-lt}
 
 pub shifted : (p : ℕ) → p < 32 → (1 * 2 ^ p) % 2 ^ 64 ≡ 2 ^ p
 shifted p h = shl-exact {a = 1} 1 p 64 (omega arith) (omega arith) ∙ one-mul (2 ^ p)
@@ -20,43 +21,37 @@ pow-31 p h = pow-mono {i = p} {j = 31} (omega arith)
 
 -- ---- the operands
 
-pub kind-3 : (k : ℕ) → 1 ≤ k → k ≤ 3 → (k ≡ 1 → ⊥) → (k ≡ 2 → ⊥) → k ≡ 3
-kind-3 k one three a b = omega arith
+-- with q, high and low as computed
+module _ {k p n : ℕ} (h : Splits k p n) {q : ℕ} (qe : q ≡ 2 ^ p) where
+  pub by-splus : k ≡ 1 → (n / q ≡ left-at (kind-of k) p n) × (n % q ≡ right-at (kind-of k) p n)
+  unfolding left-at right-at high low kind-of
+  by-splus e = rw (e, qe) (refl, refl)
 
--- a MINUSS split is at p < N
-pub below-top : (k p n : ℕ) → legal-at (kind-of k) p n ≡ true → k ≡ 3 → p < bit-length n
-unfolding legal-at kind-of
-below-top k p n ok e = ltb-true p (bit-length n)
-    (and₃ (leb 1 p) (ltb p (bit-length n)) (eqb (high p n % 2) 0) (subst (λ (z : ℕ). legal-at (kind-of z) p n ≡ true) e ok) .1)
+  pub by-sminus : k ≡ 2 → (n / q + 1 ≡ left-at (kind-of k) p n) × (q - n % q ≡ right-at (kind-of k) p n)
+  unfolding left-at right-at high low kind-of
+  by-sminus e = rw (e, qe) (refl, refl)
 
-module _ (k p n q : ℕ) (qe : q ≡ 2 ^ p) where
-  pub left-1 : k ≡ 1 → n / q ≡ left-at (kind-of k) p n
-  unfolding left-at high kind-of
-  left-1 e = ap (λ (x : ℕ). n / x) qe ∙ sym (ap (λ (z : ℕ). left-at (kind-of z) p n) e)
+  module _ (not-1 : k ≡ 1 → ⊥) (not-2 : k ≡ 2 → ⊥) {m : ℕ} (me : m ≡ bit-length n) where
+    is-minuss : k ≡ 3
+    is-minuss = omega (arith, h .one, h .three)
 
-  pub left-2 : k ≡ 2 → n / q + 1 ≡ left-at (kind-of k) p n
-  unfolding left-at high kind-of
-  left-2 e = ap (λ (x : ℕ). n / x + 1) qe ∙ sym (ap (λ (z : ℕ). left-at (kind-of z) p n) e)
+    -- a MINUSS split is at p < N
+    pub below-top : p < m
+    unfolding legal-at kind-of
+    below-top = omega (
+      arith,
+      me,
+      ltb-true p (bit-length n)
+          (and₃ (leb 1 p) (ltb p (bit-length n)) (eqb (high p n % 2) 0) (subst (λ (z : ℕ). legal-at (kind-of z) p n ≡ true) is-minuss (h .is-legal)) .1),
+    )
 
-  pub left-3 : (top : ℕ) → top ≡ 2 ^ bit-length n → k ≡ 3 → top - q + n % q ≡ left-at (kind-of k) p n
-  unfolding left-at low kind-of
-  left-3 top te e = ap₂ (λ (x y : ℕ). x - y + n % y) te qe ∙ sym (ap (λ (z : ℕ). left-at (kind-of z) p n) e)
+    pub room-high : n / q < 2 ^ (m - p)
+    unfolding high
+    room-high = rw (qe, me) (high-lt p n (omega (arith, below-top, me)))
 
-  pub right-1 : k ≡ 1 → n % q ≡ right-at (kind-of k) p n
-  unfolding right-at low kind-of
-  right-1 e = ap (λ (x : ℕ). n % x) qe ∙ sym (ap (λ (z : ℕ). right-at (kind-of z) p n) e)
-
-  pub right-2 : k ≡ 2 → q - n % q ≡ right-at (kind-of k) p n
-  unfolding right-at low kind-of
-  right-2 e = ap (λ (x : ℕ). x - n % x) qe ∙ sym (ap (λ (z : ℕ). right-at (kind-of z) p n) e)
-
-  pub right-3 : (top : ℕ) → top ≡ 2 ^ (bit-length n - p) → k ≡ 3 → top - 1 - n / q ≡ right-at (kind-of k) p n
-  unfolding right-at high kind-of
-  right-3 top te e = ap₂ (λ (x y : ℕ). x - 1 - n / y) te qe ∙ sym (ap (λ (z : ℕ). right-at (kind-of z) p n) e)
-
-pub high-is : (q p n : ℕ) → q ≡ 2 ^ p → n / q ≡ high p n
-unfolding high
-high-is q p n e = ap (λ (x : ℕ). n / x) e
+    pub by-minuss : {x y : ℕ} → x ≡ 2 ^ m → y ≡ 2 ^ (m - p) → (x - q + n % q ≡ left-at (kind-of k) p n) × (y - 1 - n / q ≡ right-at (kind-of k) p n)
+    unfolding left-at right-at high low kind-of
+    by-minuss xe ye = rw (xe, ye, qe, me, is-minuss) (refl, refl)
 
 -- ---- the test of a split
 

@@ -14,8 +14,8 @@ use Rattle.line.specs.Number.{bit-length, odd-part, twos}
 use Rattle.split.specs.Choose.{best-below, lines}
 use Rattle.split.specs.Split.{high, legal, legal-at, low}
 use Rattle.plan.specs.Steps.{Places}
-use Rattle.line.proofs.Number.{bits-lt, odd-part-odd, odd-part-whole}
-use Rattle.split.proofs.Choose.{as-legal, best-skip, lt-or-le}
+use Rattle.line.proofs.Number.{lt-or-le, bits-lt, odd-part-odd, odd-part-whole}
+use Rattle.split.proofs.Choose.{as-legal, best-skip}
 use Rattle.split.proofs.Splits.{and₃, pow-even}
 use Rattle.plan.proofs.Formulas.{at-1, at-2, at-3, not-1, not-2, not-3}
 use Rattle.plan.proofs.Plans.{whole}

@@ -1,9 +1,10 @@
 -- Planning: the refusals in their order, and what the steps give once nothing is refused.
 use Prim.Native.Nat.{ℕ, zero, suc, _-_, _*_, _/_, _%_, _^_, _≤_, _<_}
 use mathlib.Core.Path.{_≡_, refl, sym, ap, ap₂, _∙_}
-use mathlib.Core.Bool.{true}
+use mathlib.Core.Bool.{true, cond}
 use mathlib.Core.List.{List, [], _∷_, _++_, map}
 use native.Mathlib.Omega.{arith}
+use lib.Dec.{ltb}
 use lib.ListN.{length, drop}
 use lib.Pow.{pow-mono}
 use lib.Seq.{length-take-le}
@@ -42,7 +43,7 @@ planned-by c w r a e = ap (λ (x : Planned). plan-by split-of x c w r) e
 
 -- ---- the refusals
 
-pub refused : (c : ℕ) (w r : List ℕ) (x : Refusal) → plan-answer split-of c (length w) (length r) ≡ Refused x → AsPlanned c w r (Refused x) w r
+refused : (c : ℕ) (w r : List ℕ) (x : Refusal) → plan-answer split-of c (length w) (length r) ≡ Refused x → AsPlanned c w r (Refused x) w r
 refused c w r x e =
     let p = planned-by c w r (Refused x) e in
     (sym (ap (λ (o : Outcome). o .answer) p), sym (ap (λ (o : Outcome). o .work) p), sym (ap (λ (o : Outcome). o .recipe) p))
@@ -60,15 +61,18 @@ module _ (c : ℕ) (w r : List ℕ) where
   unfolding plan-answer
   refused-work n h k = refused c w r WorkRoom (rw (ne-eqb c 0 n, le-ltb 65535 c h, lt-ltb (length w) (2 ^ (odd-bits c - 1)) k, plan-answer))
 
-  pub refused-recipe : (c ≡ 0 → ⊥) → c ≤ 65535 → 2 ^ (odd-bits c - 1) ≤ length w → length r < 5 * (odd-bits c / 2) → AsPlanned c w r (Refused RecipeRoom) w r
+  -- with a work room that is long enough, the recipe room decides
+  third : (c ≡ 0 → ⊥) → c ≤ 65535 → 2 ^ (odd-bits c - 1) ≤ length w
+      → plan-answer split-of c (length w) (length r) ≡ cond (ltb (length r) (5 * (odd-bits c / 2))) (Refused RecipeRoom) (Lines (length (recipe-for split-of (odd-part c))))
   unfolding plan-answer
-  refused-recipe n h k l =
-      refused c w r RecipeRoom (rw (ne-eqb c 0 n, le-ltb 65535 c h, le-ltb (length w) (2 ^ (odd-bits c - 1)) k, lt-ltb (length r) (5 * (odd-bits c / 2)) l, plan-answer))
+  third n h k = rw (ne-eqb c 0 n, le-ltb 65535 c h, le-ltb (length w) (2 ^ (odd-bits c - 1)) k, plan-answer)
+
+  pub refused-recipe : (c ≡ 0 → ⊥) → c ≤ 65535 → 2 ^ (odd-bits c - 1) ≤ length w → length r < 5 * (odd-bits c / 2) → AsPlanned c w r (Refused RecipeRoom) w r
+  refused-recipe n h k l = refused c w r RecipeRoom (third n h k ∙ rw (lt-ltb (length r) (5 * (odd-bits c / 2)) l))
 
   pub success : (c ≡ 0 → ⊥) → c ≤ 65535 → 2 ^ (odd-bits c - 1) ≤ length w → 5 * (odd-bits c / 2) ≤ length r
       → plan-answer split-of c (length w) (length r) ≡ Lines (length (recipe-for split-of (odd-part c)))
-  unfolding plan-answer
-  success n h k l = rw (ne-eqb c 0 n, le-ltb 65535 c h, le-ltb (length w) (2 ^ (odd-bits c - 1)) k, le-ltb (length r) (5 * (odd-bits c / 2)) l, plan-answer)
+  success n h k l = third n h k ∙ rw (le-ltb (length r) (5 * (odd-bits c / 2)) l)
 
 -- ---- once nothing is refused
 
@@ -101,7 +105,7 @@ pub recipe-length : (t : ℕ → ℕ) (d : ℕ) → length (recipe-for t d) ≡ 
 unfolding recipe-for coefficients line-count
 recipe-length t d = map-length (line-for t (ordered (set-of t d))) (ordered (set-of t d)) ∙ ordered-length (set-of t d)
 
-module _ (c d m : ℕ) (w r : List ℕ) (h : Passed c d m w r) where
+module _ {c d m : ℕ} {w r : List ℕ} (h : Passed c d m w r) where
   odd : d % 2 ≡ 1
   odd = ap (λ (x : ℕ). x % 2) (h .part) ∙ odd-part-odd c (omega (arith, h .some))
 
@@ -111,7 +115,7 @@ module _ (c d m : ℕ) (w r : List ℕ) (h : Passed c d m w r) where
   pub fill-asks : (0 < m) × (m < 17) × (2 ^ (m - 1) ≤ length w)
   fill-asks = (omega (arith, h .bits, bits-pos d (omega (arith, odd))), omega (arith, h .bits, few), h .long)
 
-  module _ (w′ : List ℕ) (f : Table w m w′) where
+  module _ {w′ : List ℕ} (f : Table w m w′) where
     known : (x : ℕ) → x % 2 ≡ 1 → bit-length x ≤ bit-length d → look w′ x ≡ split-of x
     known x o b = f .known x o (omega (arith, h .bits))
 
@@ -121,7 +125,7 @@ module _ (c d m : ℕ) (w r : List ℕ) (h : Passed c d m w r) where
     pub whole : Whole w′ d
     whole = record { odd = odd; few = omega (arith, few); long = longer; known = known }
 
-    module _ (s : Set) (g : Coefficients d s) where
+    module _ {s : Set} (g : Coefficients d s) where
       of-set : (x : ℕ) → member x (items s) ≡ true → (1 < x) × (x % 2 ≡ 1) × (bit-length x ≤ bit-length d)
       of-set x m′ =
           let k = set-closed split-of d (splits-legal lines lines-depend d (omega (arith, few))) odd (omega (arith, few)) .member x
@@ -152,8 +156,8 @@ module _ (c d m : ℕ) (w r : List ℕ) (h : Passed c d m w r) where
       lines-are-planned = ap lines-bytes (lines-cong (look w′) split-of (items s) (items s) (λ x m′. let k = of-set x m′ in known x (k .1) (k .2)))
           ∙ ap (λ (z : List ℕ). lines-bytes (map (line-for split-of z) z)) (g .holds)
 
-      pub done : (r′ : List ℕ) → r′ ≡ lines-bytes (map (line-for (look w′) (items s)) (items s)) ++ drop (5 * s .len) r → AsPlanned c w r (Lines (s .len)) w′ r′
-      done r′ e =
+      pub done : {r′ : List ℕ} → r′ ≡ lines-bytes (map (line-for (look w′) (items s)) (items s)) ++ drop (5 * s .len) r → AsPlanned c w r (Lines (s .len)) w′ r′
+      done e =
           let o : ℕ = odd-part c in
           let bits-are : m ≡ odd-bits c = h .bits ∙ ap bit-length (h .part) in
           let p = planned-by c w r (Lines (length (recipe-for split-of o)))

@@ -20,7 +20,7 @@ use Rattle.line.proofs.Number.{bits-lt, bits-pos}
 use Rattle.split.proofs.Closed.{held-adds, later, spread}
 use Rattle.split.proofs.Reach.{Legal, reach-1, reach-step}
 use Rattle.split.proofs.Sets.{add-long, add-monotone, add-new, adds-lacks, adds-monotone, adds-within}
-use Rattle.split.proofs.Splits.{Operands, and₃, operands, pow-even}
+use Rattle.split.proofs.Splits.{Operand, Operands, and₃, operands, pow-even}
 use Rattle.plan.proofs.Rooms.{push-at}
 
 -- a legal split as kind and p
@@ -30,64 +30,75 @@ splits-of s n big odd few ok =
     record { big = big; odd = odd; few = few; short = omega arith; one = leb-true _ _ (t .0); three = leb-true _ _ (t .1); is-legal = t .2 }
 
 -- 1, and what the set has, add nothing
-pub stay : (l a : List ℕ) (len x : ℕ) → x % 2 ≡ 1 → length a ≡ 32 → len ≤ 32 → Held (look l) (take len a) → (x < 2) ⊎ (member x (take len a) ≡ true) → Walked l a len x a len
+pub stay : (t : ℕ → ℕ) {a : List ℕ} {len : ℕ} (x : ℕ) → x % 2 ≡ 1 → length a ≡ 32 → len ≤ 32 → Held t (take len a) → (x < 2) ⊎ (member x (take len a) ≡ true) → Walked (reach t x) a len a len
 unfolding adds
-stay l a len x odd full within held w = record {
+stay t {a} {len} x odd full within held w = record {
   holds = sym (⊎-elim
-      (λ small. ap (λ (m : ℕ). adds (reach (look l) m) (take len a)) {y = 1} (omega arith) ∙ ap (λ (z : List ℕ). adds z (take len a)) (reach-1 (look l)))
-      (λ m. adds-within (reach (look l) x) (take len a) (held x m))
+      (λ small. ap (λ (m : ℕ). adds (reach t m) (take len a)) {y = 1} (omega arith) ∙ ap (λ (z : List ℕ). adds z (take len a)) (reach-1 t))
+      (λ m. adds-within (reach t x) (take len a) (held x m))
       w);
   within = within;
   full = full;
 }
 
-module _ (l a : List ℕ) (len s n R : ℕ) (h : Ready l a len s n R) where
-  t : ℕ → ℕ
-  t = look l
+-- from an empty set, a walk counts the lines
+pub counted : (t : ℕ → ℕ) (s n : ℕ) {a b : List ℕ} {k : ℕ} → Walked (follow (reach t) s n) a 0 b k → k ≡ lines t s n
+unfolding lines set-by
+counted t s n {a} {b} {k} w = sym (length-take-le k b (omega (arith, w .within, w .full))) ∙ ap (λ (z : List ℕ). length z) (w .holds)
 
+module _ {l a : List ℕ} {len s n : ℕ} (h : Ready l a len s n) where
   ops : Operands (kind s) (s % 32) n (left s n) (right s n)
   ops = operands s n (h .big) (h .odd) (omega (arith, h .few)) (h .is-legal)
 
-  pub index-in : n / 2 < length l
-  index-in = omega (arith, h .long, bits-lt n, pow-even (bit-length n) (bits-pos n (omega (arith, h .big))))
+  pub splits : Splits (s / 32) (s % 32) n
+  splits = splits-of s n (h .big) (h .odd) (h .few) (h .is-legal)
 
-  pub read-splits : (c : ℕ) → c ≡ s → Splits (c / 32) (c % 32) n
-  read-splits c e = splits-of c n (h .big) (h .odd) (h .few) (subst (λ (x : ℕ). legal x n ≡ true) (sym e) (h .is-legal))
+  pub left-is : {x : ℕ} → x ≡ left s n → Operand n x
+  left-is e = subst (λ (z : ℕ). Operand n z) (sym e) (ops .left)
 
-  pub left-odd : (x : ℕ) → x ≡ left s n → x % 2 ≡ 1
-  left-odd x e = ap (λ (z : ℕ). z % 2) e ∙ ops .left-odd
+  pub right-is : {x : ℕ} → x ≡ right s n → Operand n x
+  right-is e = subst (λ (z : ℕ). Operand n z) (sym e) (ops .right)
 
-  pub right-odd : (x : ℕ) → x ≡ right s n → x % 2 ≡ 1
-  right-odd x e = ap (λ (z : ℕ). z % 2) e ∙ ops .right-odd
+  module _ {x : ℕ} (o : Operand n x) where
+    legal-to : Legal (look l) (suc (turn x))
+    legal-to m b d r = h .legals m b d (omega (arith, o .turn))
 
-  pub left-less : (x : ℕ) → x ≡ left s n → rank x < rank n
-  left-less x e = subst (λ (z : ℕ). rank z < rank n) (sym e) (ops .left-falls)
+    fits : bit-length x < 64
+    fits = omega (arith, h .few, o .bits)
 
-  pub right-less : (x : ℕ) → x ≡ right s n → rank x < rank n
-  right-less x e = subst (λ (z : ℕ). rank z < rank n) (sym e) (ops .right-falls)
+    pub index-in : x / 2 < length l
+    index-in = omega (arith, h .long, bits-lt x, pow-even (bit-length x) (bits-pos x (omega (arith, o .odd))), pow-mono {i = bit-length x - 1} {j = bit-length n - 1} (omega (arith, o .bits)))
 
-  ok-to : (x : ℕ) → turn x < turn n → Legal t (suc (turn x))
-  unfolding t
-  ok-to x less m b o r = h .legals m b o (omega (arith, h .far))
+    holds-on : (base : List ℕ) → Held (look l) base → Held (look l) (adds (reach (look l) x) base)
+    holds-on base g = held-adds (look l) x legal-to (o .odd) fits base g
 
-  -- an operand that is new to a set
-  ready : (x : ℕ) (b : List ℕ) (k : ℕ) → x % 2 ≡ 1 → bit-length x ≤ bit-length n → turn x < turn n → length b ≡ 32 → k ≤ 32 → Held t (take k b)
-      → (1 < x) × (member x (take k b) ≡ false) → length (adds (reach t x) (take k b)) ≤ 32 → Ready l b k (look l x) x (suc (turn x))
-  unfolding t
-  ready x b k odd few less full within held new room = record {
-    big = new .0;
-    odd = odd;
-    few = omega (arith, h .few);
-    is-legal = h .legals x (new .0) odd (omega (arith, h .far));
-    long = omega (arith, h .long, pow-mono {i = bit-length x - 1} {j = bit-length n - 1} (omega arith));
-    far = omega arith;
-    legals = ok-to x less;
-    full = full;
-    within = within;
-    held = held;
-    new = new .1;
-    room = subst (λ (z : List ℕ). length (adds z (take k b)) ≤ 32) (reach-step (look l) x (ok-to x less) (new .0) odd (omega (arith, h .few))) room;
-  }
+    unreached : member n (reach (look l) x) ≡ false
+    unreached = later (look l) n x legal-to (o .odd) fits (o .turn)
+
+    -- a walk from the table's split of x is all that x reaches
+    pub reached : 1 < x → {c : ℕ} → c ≡ look l x → {b : List ℕ} {k : ℕ} {b′ : List ℕ} {k′ : ℕ} → Walked (follow (reach (look l)) c x) b k b′ k′ → Walked (reach (look l) x) b k b′ k′
+    reached big e {b} {k} w = record {
+      holds = w .holds ∙ ap (λ (z : ℕ). adds (follow (reach (look l)) z x) (take k b)) e ∙ sym (ap (λ (z : List ℕ). adds z (take k b)) (reach-step (look l) x legal-to big (o .odd) fits));
+      within = w .within;
+      full = w .full;
+    }
+
+    -- an operand that is new to a set
+    ready : {b : List ℕ} {k c : ℕ} → c ≡ look l x → length b ≡ 32 → k ≤ 32 → Held (look l) (take k b) → (1 < x) × (member x (take k b) ≡ false)
+        → length (adds (reach (look l) x) (take k b)) ≤ 32 → Ready l b k c x
+    ready {b} {k} {c} e full within held new room = subst (λ (z : ℕ). Ready l b k z x) (sym e) (record {
+      big = new .0;
+      odd = o .odd;
+      few = omega (arith, h .few, o .bits);
+      is-legal = h .legals x (new .0) (o .odd) (o .turn);
+      long = omega (arith, h .long, pow-mono {i = bit-length x - 1} {j = bit-length n - 1} (omega (arith, o .bits)));
+      legals = λ m p q r. h .legals m p q (omega (arith, o .turn));
+      full = full;
+      within = within;
+      held = held;
+      new = new .1;
+      room = subst (λ (z : List ℕ). length (adds z (take k b)) ≤ 32) (reach-step (look l) x legal-to (new .0) (o .odd) fits) room;
+    })
 
   L : List ℕ
   L = reach (look l) (left s n)
@@ -102,76 +113,51 @@ module _ (l a : List ℕ) (len s n R : ℕ) (h : Ready l a len s n R) where
   unfolding L Q base
   both = subst (λ (z : List ℕ). length z ≤ 32) (spread (look l) s n (take len a)) (h .room)
 
-  pub left-ready : (x : ℕ) → x ≡ left s n → (1 < x) × (member x (take len a) ≡ false) → Ready l a len (look l x) x (suc (turn x))
-  unfolding t L Q base
-  left-ready x e new = ready x a len (left-odd x e) (subst (λ (z : ℕ). bit-length z ≤ bit-length n) (sym e) (ops .left-bits)) (subst (λ (z : ℕ). turn z < turn n) (sym e) (ops .left-turn))
-      (h .full) (h .within) (h .held) new
+  pub left-ready : {x c : ℕ} → x ≡ left s n → c ≡ look l x → (1 < x) × (member x (take len a) ≡ false) → Ready l a len c x
+  unfolding L Q base
+  left-ready e q new = ready (left-is e) q (h .full) (h .within) (h .held) new
       (subst (λ (z : ℕ). length (adds (reach (look l) z) (take len a)) ≤ 32) (sym e)
       (omega (arith, both, adds-monotone Q (adds L base), add-monotone n (adds Q (adds L base)))))
 
-  module _ (x : ℕ) (e : x ≡ left s n) (b : List ℕ) (k : ℕ) (w : Walked l a len x b k) where
+  module _ {x : ℕ} (e : x ≡ left s n) {b : List ℕ} {k : ℕ} (w : Walked (reach (look l) x) a len b k) where
     got : take k b ≡ adds L base
     unfolding L base
     got = w .holds ∙ ap (λ (z : ℕ). adds (reach (look l) z) (take len a)) e
 
     pub left-held : Held (look l) (take k b)
-    unfolding t L base
-    left-held = subst (λ (z : List ℕ). Held (look l) z) (sym got)
-        (held-adds (look l) (left s n) (ok-to (left s n) (ops .left-turn)) (ops .left-odd) (omega (arith, h .few, ops .left-bits)) (take len a) (h .held))
+    left-held = subst (λ (z : List ℕ). Held (look l) z) (sym (w .holds)) (holds-on (left-is e) (take len a) (h .held))
 
-    pub right-ready : (y : ℕ) → y ≡ right s n → (1 < y) × (member y (take k b) ≡ false) → Ready l b k (look l y) y (suc (turn y))
-    unfolding t L Q base
-    right-ready y d new = ready y b k (right-odd y d) (subst (λ (z : ℕ). bit-length z ≤ bit-length n) (sym d) (ops .right-bits)) (subst (λ (z : ℕ). turn z < turn n) (sym d) (ops .right-turn))
-        (w .full) (w .within) left-held new
+    pub right-ready : {y c : ℕ} → y ≡ right s n → c ≡ look l y → (1 < y) × (member y (take k b) ≡ false) → Ready l b k c y
+    unfolding L Q base
+    right-ready d q new = ready (right-is d) q (w .full) (w .within) left-held new
         (subst (λ (z : ℕ). length (adds (reach (look l) z) (take k b)) ≤ 32) (sym d)
         (omega (arith, both, ap (λ (z : List ℕ). length (adds Q z)) got, add-monotone n (adds Q (adds L base)))))
 
-    module _ (y : ℕ) (d : y ≡ right s n) (f : List ℕ) (j : ℕ) (v : Walked l b k y f j) where
+    module _ {y : ℕ} (d : y ≡ right s n) {f : List ℕ} {j : ℕ} (v : Walked (reach (look l) y) b k f j) where
       all : take j f ≡ adds Q (adds L base)
       unfolding Q
       all = v .holds ∙ ap (λ (z : ℕ). adds (reach (look l) z) (take k b)) d ∙ ap (λ (z : List ℕ). adds (reach (look l) (right s n)) z) got
 
       lacks : member n (take j f) ≡ false
-      unfolding t L Q base
-      lacks = ap (member n) all ∙ adds-lacks n Q (adds L base)
-          (adds-lacks n L base (h .new) (later (look l) n (left s n) (ok-to (left s n) (ops .left-turn)) (ops .left-odd) (omega (arith, h .few, ops .left-bits)) (ops .left-turn)))
-          (later (look l) n (right s n) (ok-to (right s n) (ops .right-turn)) (ops .right-odd) (omega (arith, h .few, ops .right-bits)) (ops .right-turn))
-
-      long : length (take j f) ≡ j
-      long = length-take-le j f (omega (arith, v .within, v .full))
+      lacks = ap (member n) (v .holds ∙ ap (adds (reach (look l) y)) (w .holds))
+          ∙ adds-lacks n (reach (look l) y) (adds (reach (look l) x) (take len a))
+          (adds-lacks n (reach (look l) x) (take len a) (h .new) (unreached (left-is e)))
+          (unreached (right-is d))
 
       grown : length (add n (adds Q (adds L base))) ≡ suc j
-      grown = ap (λ (z : List ℕ). length (add n z)) (sym all) ∙ add-long n (take j f) lacks ∙ ap suc long
+      grown = ap (λ (z : List ℕ). length (add n z)) (sym all) ∙ add-long n (take j f) lacks ∙ ap suc (length-take-le j f (omega (arith, v .within, v .full)))
 
       pub room-left : j < 32
       room-left = omega (arith, both, grown)
 
-      pub counted : take len a ≡ [] → j + 1 ≡ lines (look l) s n
-      unfolding lines set-by L Q base
-      counted none = omega (arith, grown, ap (λ (z : List ℕ). length z) (spread (look l) s n (take len a)), ap (λ (z : List ℕ). length (adds (follow (reach (look l)) s n) z)) none)
-
-      pub done : s ≡ look l n → R ≡ suc (turn n) → Walked l a len n (set f j n) (j + 1)
+      pub done : Walked (follow (reach (look l)) s n) a len (set f j n) (j + 1)
       unfolding L Q base
-      done se re = record {
+      done = record {
         holds =
             push-at n f j (omega (arith, room-left, v .full))
             ∙ sym (add-new n (take j f) lacks)
             ∙ ap (add n) all
-            ∙ sym (spread (look l) s n (take len a))
-            ∙ ap (λ (z : ℕ). adds (follow (reach (look l)) z n) (take len a)) se
-            ∙ sym (ap (λ (z : List ℕ). adds z (take len a))
-            (reach-step (look l) n (λ m b o r. h .legals m b o (subst (λ (z : ℕ). turn m < z) (sym re) r)) (h .big) (h .odd) (omega (arith, h .few))));
+            ∙ sym (spread (look l) s n (take len a));
         within = omega (arith, room-left);
         full = length-set f j n ∙ v .full;
       }
-
--- an operand by the byte that was read is one by the table
-pub read-is : (l : List ℕ) (n c : ℕ) → c ≡ getD l (n / 2) 0 → c ≡ look l n
-unfolding look
-read-is l n c e = e
-
-pub left-is : (n c s x : ℕ) → c ≡ s → x ≡ left c n → x ≡ left s n
-left-is n c s x e d = d ∙ ap (λ (z : ℕ). left z n) e
-
-pub right-is : (n c s x : ℕ) → c ≡ s → x ≡ right c n → x ≡ right s n
-right-is n c s x e d = d ∙ ap (λ (z : ℕ). right z n) e

@@ -40,25 +40,24 @@ pub record Fresh (x : ℕ) (set : List ℕ) (r : Bool) : Type 0 where
   pub when : r ≡ true → (1 < x) × (member x set ≡ false)
   pub unless : r ≡ false → (x < 2) ⊎ (member x set ≡ true)
 
--- what following n's split s asks: s is legal, the table reaches as far as n's bit length, its splits are legal before the turn R, and the
+-- what following n's split s asks: s is legal, the table reaches as far as n's bit length, its splits are legal before n's turn, and the
 -- first len of the set, which lack n, hold what they reach and leave room
-pub record Ready (table set : List ℕ) (len s n R : ℕ) : Type 0 where
+pub record Ready (table set : List ℕ) (len s n : ℕ) : Type 0 where
   pub big : 1 < n
   pub odd : n % 2 ≡ 1
   pub few : bit-length n < 32
   pub is-legal : legal s n ≡ true
   pub long : 2 ^ (bit-length n - 1) ≤ length table
-  pub far : turn n ≤ R
-  pub legals : (m : ℕ) → 1 < m → m % 2 ≡ 1 → turn m < R → legal (look table m) m ≡ true
+  pub legals : (m : ℕ) → 1 < m → m % 2 ≡ 1 → turn m < turn n → legal (look table m) m ≡ true
   pub full : length set ≡ 32
   pub within : len ≤ 32
   pub held : Held (look table) (take len set)
   pub new : member n (take len set) ≡ false
   pub room : length (adds (follow (reach (look table)) s n) (take len set)) ≤ 32
 
--- the first r of the set at exit are its first len at entry, and what n reaches
-pub record Walked (table entry : List ℕ) (len n : ℕ) (exit : List ℕ) (r : ℕ) : Type 0 where
-  pub holds : take r exit ≡ adds (reach (look table) n) (take len entry)
+-- the first r of the set at exit are its first len at entry, and those of xs that these lack
+pub record Walked (xs entry : List ℕ) (len : ℕ) (exit : List ℕ) (r : ℕ) : Type 0 where
+  pub holds : take r exit ≡ adds xs (take len entry)
   pub within : r ≤ 32
   pub full : length exit ≡ 32
 

@@ -17,7 +17,7 @@ use Rattle.cnf.specs.Words.{words}
 use Rattle.cnf.proofs.Words.{words-append}
 use Rattle.product.specs.Bit.{Bit, fixed, unfixed, variables}
 use Rattle.product.specs.Column.{fixed-sum, literals, Made, parity, sum, both, either, most, carry, carry-unless, column}
-use Rattle.product.specs.Lines.{none-left, adder, shifted, line-sum, columns, line-encoded, encoded}
+use Rattle.product.specs.Lines.{none-left, adder, fitted, line-sum, columns, line-encoded, encoded}
 use Rattle.product.specs.Product.{lines-from, lines-of, product, product-of, clause-words}
 use Rattle.product.proofs.BitLengths.{columns-le}
 use Rattle.product.proofs.Lengths.{length-fitted, length-variables, length-lines}
@@ -88,11 +88,14 @@ module _ (size : List Clause → ℕ) (most : ℕ) (none : size [] ≡ 0) (appen
       let s = adder ls rs (k .carry-bit) (k .next) in
       omega (arith, append (k .clauses) (s .clauses), column-size l r c (none-left ls) n, adder-size ls rs (k .carry-bit) (k .next), mul-suc most (length ls))
 
+  fitted-size : (m : ℕ) (ls rs : List Bit) (c : Bit) (n : ℕ) → size (adder (fitted m ls) rs c n .clauses) ≤ most * m
+  fitted-size m ls rs c n = subst (λ (k : ℕ). size (adder (fitted m ls) rs c n .clauses) ≤ most * k) (length-fitted m ls) (adder-size (fitted m ls) rs c n)
+
   line-size : (d : Kind) (m s : ℕ) (l r : List Bit) (n : ℕ) → size (line-sum d m l s r n .clauses) ≤ most * m
   unfolding line-sum
-  line-size splus m s l r n = subst (λ (k : ℕ). size (line-sum splus m l s r n .clauses) ≤ most * k) (length-fitted m (shifted s l)) (adder-size _ _ _ n)
-  line-size sminus m s l r n = subst (λ (k : ℕ). size (line-sum sminus m l s r n .clauses) ≤ most * k) (length-fitted m (shifted s l)) (adder-size _ _ _ n)
-  line-size minuss m s l r n = subst (λ (k : ℕ). size (line-sum minuss m l s r n .clauses) ≤ most * k) (length-fitted m l) (adder-size _ _ _ n)
+  line-size splus m s l r n = fitted-size m _ _ _ n
+  line-size sminus m s l r n = fitted-size m _ _ _ n
+  line-size minuss m s l r n = fitted-size m _ _ _ n
 
   recipe-size : (w L : ℕ) (ls : List Line) (operands : List (List Bit)) (n : ℕ) → Small L ls → size (encoded (columns w) ls operands n .clauses) ≤ most * (L + w) * length ls
   unfolding encoded line-encoded

@@ -2,10 +2,9 @@
 --
 -- A call gets a constant c, a width w, a recipe's bytes and two rooms of words. Its contract fixes the answer and both rooms at exit as
 -- those of `written c w recipe bits clauses` (crates/product/specs/Write.antt); a `Result` is any answer with any two rooms that meet this
--- contract, so what is said of a Result is said of the call, and two Results of one call are the same (`one-result`). An answer is no
--- refusal where its number is 0. Then its counts tell which part of the rooms was written: the first `words-used` words of the clause room
--- at exit and the first `bits-of-y` entries of the bit room at exit. Everything below is said of these words and entries, as they stand in
--- the rooms, and of no list of clauses beside them.
+-- contract, so what is said of a Result is said of the call. An answer is no refusal where its number is 0. Then its counts tell which
+-- part of the rooms was written: the first `words-used` words of the clause room at exit and the first `bits-of-y` entries of the bit room
+-- at exit. Everything below is said of these words and entries, as they stand in the rooms, and of no list of clauses beside them.
 --
 -- The meaning is that of DIMACS. Words up to each 0 are a clause; a word v above 0 is the variable v, and -v its negation; a clause holds
 -- when one of its literals holds. An assignment is the list of the values of the variables 1 to the answer's highest; its first w values,
@@ -87,14 +86,6 @@ pub not-refused : (c w : ℕ) (recipe : List ℕ) (bits clauses : List ℤ) (ans
 not-refused c w recipe bits clauses answer bits′ clauses′ r e p q f h =
     ap written-number (r .answered ∙ answer-of c w recipe bits clauses)
     ∙ passes-all c w recipe (length bits) (length clauses) (accepted-right c recipe e) p q f h
-
--- ---- every call
-
-pub one-result : (c w : ℕ) (recipe : List ℕ) (bits clauses : List ℤ) (a b : Written) (bits-a bits-b clauses-a clauses-b : List ℤ)
-    → Result c w recipe bits clauses a bits-a clauses-a → Result c w recipe bits clauses b bits-b clauses-b
-    → (a ≡ b) × ((bits-a ≡ bits-b) × (clauses-a ≡ clauses-b))
-one-result c w recipe bits clauses a b bits-a bits-b clauses-a clauses-b r s =
-    (r .answered ∙ sym (s .answered), (r .bits-left ∙ sym (s .bits-left), r .clauses-left ∙ sym (s .clauses-left)))
 
 -- ---- every call that is not refused
 

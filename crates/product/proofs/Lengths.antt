@@ -26,7 +26,7 @@ length-fitted zero bs = refl
 length-fitted (suc m) [] = ap suc (length-fitted m [])
 length-fitted (suc m) (b ∷ bs) = ap suc (length-fitted m bs)
 
-length-flipped : (m : ℕ) (bs : List Bit) → length (map flip (fitted m bs)) ≡ m
+pub length-flipped : (m : ℕ) (bs : List Bit) → length (map flip (fitted m bs)) ≡ m
 length-flipped m bs = length-map (fitted m bs) flip ∙ length-fitted m bs
 
 pub length-adder : (ls rs : List Bit) (c : Bit) (n : ℕ) → length ls ≡ length rs → length (adder ls rs c n .bits) ≡ length ls
@@ -38,12 +38,9 @@ length-adder (l ∷ ls) (r ∷ rs) c n e = ap suc (length-adder ls rs _ _ (omega
 -- a line has a bit in each column
 pub length-line : (d : Kind) (m s : ℕ) (l r : List Bit) (n : ℕ) → length (line-sum d m l s r n .bits) ≡ m
 unfolding line-sum
-length-line splus m s l r n =
-    length-adder (fitted m (shifted s l)) (fitted m r) _ n (length-fitted m _ ∙ sym (length-fitted m r)) ∙ length-fitted m _
-length-line sminus m s l r n =
-    length-adder (fitted m (shifted s l)) (map flip (fitted m r)) _ n (length-fitted m _ ∙ sym (length-flipped m r)) ∙ length-fitted m _
-length-line minuss m s l r n =
-    length-adder (fitted m l) (map flip (fitted m (shifted s r))) _ n (length-fitted m l ∙ sym (length-flipped m _)) ∙ length-fitted m l
+length-line splus m s l r n = length-adder (fitted m _) (fitted m _) _ n (length-fitted m _ ∙ sym (length-fitted m _)) ∙ length-fitted m _
+length-line sminus m s l r n = length-adder (fitted m _) (map flip (fitted m _)) _ n (length-fitted m _ ∙ sym (length-flipped m _)) ∙ length-fitted m _
+length-line minuss m s l r n = length-adder (fitted m _) (map flip (fitted m _)) _ n (length-fitted m _ ∙ sym (length-flipped m _)) ∙ length-fitted m _
 
 -- one operand more for each line
 pub length-operands : (m : ℕ → ℕ) (ls : List Line) (operands : List (List Bit)) (n : ℕ)

@@ -12,12 +12,12 @@ use lib.Arith.{digits-mod}
 use lib.IntN.{pos}
 use lib.ListN.{length, length-map}
 use Rattle.line.specs.Line.{Kind, splus, sminus, minuss, gives}
-use Rattle.line.proofs.Value.{sums-of-gives}
+use Rattle.line.proofs.Value.{Sums, sums-of-gives}
 use Rattle.cnf.specs.Clause.{Assignment, value, satisfies}
 use Rattle.cnf.proofs.Extend.{Extends, Fresh}
 use Rattle.product.specs.Bit.{Bit, fixed, unfixed, flip, bit-value, num, reads}
 use Rattle.product.specs.Lines.{adder, shifted, fitted, line-sum}
-use Rattle.product.proofs.Lengths.{length-fitted}
+use Rattle.product.proofs.Lengths.{length-fitted, length-flipped}
 use Rattle.product.proofs.ShapeMeans.{flips-not}
 use Rattle.product.specs.Demand.{Bit-below, Bits-below}
 use Rattle.product.proofs.ColumnMeans.{bit-number, num-le}
@@ -76,14 +76,13 @@ pub reads-lt : (α : Assignment) (bs : List Bit) → reads α bs < 2 ^ length bs
 reads-lt α [] = le-refl 1
 reads-lt α (b ∷ bs) = omega (arith, reads-lt α bs, num-le (bit-value α b), pow-suc 2 (length bs))
 
-fitted-congruent : (α : Assignment) (m : ℕ) (bs : List Bit) → Congruent m (reads α (fitted m bs)) (reads α bs)
-fitted-congruent α m bs = (reads-fitted α m bs .0, 0, omega (arith, reads-fitted α m bs .1))
+shifted-congruent : (α : Assignment) (m s : ℕ) (bs : List Bit) (v : ℕ) → Congruent m (reads α bs) v → Congruent m (reads α (shifted s bs)) (2 ^ s * v)
+shifted-congruent α m s bs v h =
+    congruent-trans m (reads α (shifted s bs)) (2 ^ s * reads α bs) (2 ^ s * v) (congruent-of-eq m (reads-shifted α s bs)) (congruent-mul m (2 ^ s) (reads α bs) v h)
 
--- the shifted, fitted operand
-term-congruent : (α : Assignment) (m s : ℕ) (bs : List Bit) (v : ℕ) → Congruent m (reads α bs) v → Congruent m (reads α (fitted m (shifted s bs))) (2 ^ s * v)
-term-congruent α m s bs v h =
-    congruent-trans m (reads α (fitted m (shifted s bs))) (reads α (shifted s bs)) (2 ^ s * v) (fitted-congruent α m (shifted s bs))
-    (congruent-trans m (reads α (shifted s bs)) (2 ^ s * reads α bs) (2 ^ s * v) (congruent-of-eq m (reads-shifted α s bs)) (congruent-mul m (2 ^ s) (reads α bs) v h))
+-- what a term reads as, it reads as when it is fitted to m columns
+fitted-congruent : (α : Assignment) (m : ℕ) (bs : List Bit) (v : ℕ) → Congruent m (reads α bs) v → Congruent m (reads α (fitted m bs)) v
+fitted-congruent α m bs v h = congruent-trans m (reads α (fitted m bs)) (reads α bs) v (reads-fitted α m bs .0, 0, omega (arith, reads-fitted α m bs .1)) h
 
 sum-congruent : (m S A B u v t : ℕ) → Congruent m S (A + B) → Congruent m A u → Congruent m B v → t ≡ u + v → Congruent m S t
 sum-congruent m S A B u v t h ha hb e = congruent-trans m S (A + B) t h (congruent-trans m (A + B) (u + v) t (congruent-add m A u B v ha hb) (congruent-of-eq m (sym e)))
@@ -121,64 +120,57 @@ module _ (Used : ℕ → Type 0) where
     pub extends : Extends Used n (line-sum d m L s R n .next) (line-sum d m L s R n .clauses)
     pub below : Bits-below Used (line-sum d m L s R n .next) (line-sum d m L s R n .bits)
 
-  -- two operands of m columns added, and one taken from the other
-  module _ (m n : ℕ) (fresh : Fresh Used n) (A B : List Bit) (la : length A ≡ m) (lb : length B ≡ m) (ia : Bits-below Used n A) (ib : Bits-below Used n B) where
-    plus : Adds Used A B (fixed false) n (adder A B (fixed false) n)
-    plus = adder-adds Used A B (fixed false) n (la ∙ sym lb) fresh ia ib tt
+  -- two terms, each fitted to m columns, added, and one taken from the other
+  module _ (m n : ℕ) (fresh : Fresh Used n) (X Y : List Bit) (ix : Bits-below Used n X) (iy : Bits-below Used n Y) where
+    plus : Adds Used (fitted m X) (fitted m Y) (fixed false) n (adder (fitted m X) (fitted m Y) (fixed false) n)
+    plus =
+        adder-adds Used (fitted m X) (fitted m Y) (fixed false) n (length-fitted m X ∙ sym (length-fitted m Y)) fresh
+        (fitted-below n m X ix) (fitted-below n m Y iy) tt
 
-    plus-congruent : (α : Assignment) → satisfies α (adder A B (fixed false) n .clauses) ≡ true → Congruent m (reads α (adder A B (fixed false) n .bits)) (reads α A + reads α B)
-    plus-congruent α h =
+    plus-congruent : (α : Assignment) → satisfies α (adder (fitted m X) (fitted m Y) (fixed false) n .clauses) ≡ true
+        → (u v t : ℕ) → Congruent m (reads α X) u → Congruent m (reads α Y) v → t ≡ u + v → Congruent m (reads α (adder (fitted m X) (fitted m Y) (fixed false) n .bits)) t
+    plus-congruent α h u v t cx cy e =
         let k = plus .adds α h in
-        (k .0, 0, omega (arith, k .1, ap (λ (i : ℕ). 2 ^ i * k .0) la))
+        sum-congruent m _ (reads α (fitted m X)) (reads α (fitted m Y)) u v t (k .0, 0, omega (arith, k .1, ap (λ (i : ℕ). 2 ^ i * k .0) (length-fitted m X)))
+        (fitted-congruent α m X u cx) (fitted-congruent α m Y v cy) e
 
-    minus : Adds Used A (map flip B) (fixed true) n (adder A (map flip B) (fixed true) n)
-    minus = adder-adds Used A (map flip B) (fixed true) n (la ∙ sym (length-map B flip ∙ lb)) fresh ia (flips-below n B ib) tt
+    minus : Adds Used (fitted m X) (map flip (fitted m Y)) (fixed true) n (adder (fitted m X) (map flip (fitted m Y)) (fixed true) n)
+    minus =
+        adder-adds Used (fitted m X) (map flip (fitted m Y)) (fixed true) n (length-fitted m X ∙ sym (length-flipped m Y)) fresh
+        (fitted-below n m X ix) (flips-below n (fitted m Y) (fitted-below n m Y iy)) tt
 
-    minus-congruent : (α : Assignment) → satisfies α (adder A (map flip B) (fixed true) n .clauses) ≡ true
-        → Congruent m (reads α (adder A (map flip B) (fixed true) n .bits) + reads α B) (reads α A)
-    minus-congruent α h =
+    minus-congruent : (α : Assignment) → satisfies α (adder (fitted m X) (map flip (fitted m Y)) (fixed true) n .clauses) ≡ true
+        → (u v t : ℕ) → Congruent m (reads α X) u → Congruent m (reads α Y) v → t + v ≡ u → Congruent m (reads α (adder (fitted m X) (map flip (fitted m Y)) (fixed true) n .bits)) t
+    minus-congruent α h u v t cx cy e =
         let k = minus .adds α h in
-        (k .0, 1, omega (arith, k .1, ap (λ (i : ℕ). 2 ^ i * k .0) la, reads-flip α B, ap (λ (i : ℕ). 2 ^ i) lb))
+        difference-congruent m _ (reads α (fitted m X)) (reads α (fitted m Y)) u v t
+        (k .0, 1, omega (arith, k .1, ap (λ (i : ℕ). 2 ^ i * k .0) (length-fitted m X), reads-flip α (fitted m Y), ap (λ (i : ℕ). 2 ^ i) (length-fitted m Y)))
+        (fitted-congruent α m X u cx) (fitted-congruent α m Y v cy) e
 
   module _ (m s n : ℕ) (fresh : Fresh Used n) (L R : List Bit) (il : Bits-below Used n L) (ir : Bits-below Used n R) where
+    line-value : (d : Kind) (α : Assignment) → satisfies α (line-sum d m L s R n .clauses) ≡ true → (l r k x : ℕ) → Sums d l s r k
+        → Congruent m (reads α L) (l * x) → Congruent m (reads α R) (r * x) → Congruent m (reads α (line-sum d m L s R n .bits)) (k * x)
+    unfolding line-sum
+    line-value splus α h l r k x e cl cr =
+        plus-congruent m n fresh (shifted s L) R (shifted-below n s L il) ir α h (2 ^ s * (l * x)) (r * x) (k * x) (shifted-congruent α m s L (l * x) cl) cr
+        (omega (arith, ap (λ (z : ℕ). z * x) e))
+    line-value sminus α h l r k x e cl cr =
+        minus-congruent m n fresh (shifted s L) R (shifted-below n s L il) ir α h (2 ^ s * (l * x)) (r * x) (k * x) (shifted-congruent α m s L (l * x) cl) cr
+        (omega (arith, ap (λ (z : ℕ). z * x) e))
+    line-value minuss α h l r k x e cl cr =
+        minus-congruent m n fresh L (shifted s R) il (shifted-below n s R ir) α h (l * x) (2 ^ s * (r * x)) (k * x) cl (shifted-congruent α m s R (r * x) cr)
+        (omega (arith, ap (λ (z : ℕ). z * x) e))
+
+    line-adds : (d : Kind) → let a = line-sum d m L s R n in (Extends Used n (a .next) (a .clauses)) × (Bits-below Used (a .next) (a .bits))
+    unfolding line-sum
+    line-adds splus = let a = plus m n fresh (shifted s L) R (shifted-below n s L il) ir in (a .extends, a .below)
+    line-adds sminus = let a = minus m n fresh (shifted s L) R (shifted-below n s L il) ir in (a .extends, a .below)
+    line-adds minuss = let a = minus m n fresh L (shifted s R) il (shifted-below n s R ir) in (a .extends, a .below)
+
     pub line-multiplies : (d : Kind) → Line-multiplies d m s L R n
-    unfolding line-sum adder
-    line-multiplies splus =
-        let A = fitted m (shifted s L) in
-        let B = fitted m R in
-        let r = plus m n fresh A B (length-fitted m _) (length-fitted m _) (fitted-below n m _ (shifted-below n s L il)) (fitted-below n m R ir) in
+    line-multiplies d =
         record {
-          extends = r .extends;
-          below = r .below;
-          value = λ α h l r k x g cl cr.
-              sum-congruent m (reads α (adder A B (fixed false) n .bits)) (reads α A) (reads α B) (2 ^ s * (l * x)) (r * x) (k * x)
-              (plus-congruent m n fresh A B (length-fitted m _) (length-fitted m _) (fitted-below n m _ (shifted-below n s L il)) (fitted-below n m R ir) α h)
-              (term-congruent α m s L (l * x) cl) (congruent-trans m (reads α B) (reads α R) (r * x) (fitted-congruent α m R) cr)
-              (omega (arith, ap (λ (i : ℕ). i * x) (sums-of-gives splus l s r k g)));
-        }
-    line-multiplies sminus =
-        let A = fitted m (shifted s L) in
-        let B = fitted m R in
-        let r = minus m n fresh A B (length-fitted m _) (length-fitted m _) (fitted-below n m _ (shifted-below n s L il)) (fitted-below n m R ir) in
-        record {
-          extends = r .extends;
-          below = r .below;
-          value = λ α h l r k x g cl cr.
-              difference-congruent m (reads α (adder A (map flip B) (fixed true) n .bits)) (reads α A) (reads α B) (2 ^ s * (l * x)) (r * x) (k * x)
-              (minus-congruent m n fresh A B (length-fitted m _) (length-fitted m _) (fitted-below n m _ (shifted-below n s L il)) (fitted-below n m R ir) α h)
-              (term-congruent α m s L (l * x) cl) (congruent-trans m (reads α B) (reads α R) (r * x) (fitted-congruent α m R) cr)
-              (omega (arith, ap (λ (i : ℕ). i * x) (sums-of-gives sminus l s r k g)));
-        }
-    line-multiplies minuss =
-        let A = fitted m L in
-        let B = fitted m (shifted s R) in
-        let r = minus m n fresh A B (length-fitted m _) (length-fitted m _) (fitted-below n m L il) (fitted-below n m _ (shifted-below n s R ir)) in
-        record {
-          extends = r .extends;
-          below = r .below;
-          value = λ α h l r k x g cl cr.
-              difference-congruent m (reads α (adder A (map flip B) (fixed true) n .bits)) (reads α A) (reads α B) (l * x) (2 ^ s * (r * x)) (k * x)
-              (minus-congruent m n fresh A B (length-fitted m _) (length-fitted m _) (fitted-below n m L il) (fitted-below n m _ (shifted-below n s R ir)) α h)
-              (congruent-trans m (reads α A) (reads α L) (l * x) (fitted-congruent α m L) cl) (term-congruent α m s R (r * x) cr)
-              (omega (arith, ap (λ (i : ℕ). i * x) (sums-of-gives minuss l s r k g)));
+          value = λ α h l r k x g. line-value d α h l r k x (sums-of-gives d l s r k g);
+          extends = line-adds d .0;
+          below = line-adds d .1;
         }

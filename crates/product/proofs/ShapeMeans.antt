@@ -68,55 +68,47 @@ parity-law α f (p ∷ ps) z =
         go₂ true = refl
         go₂ false = refl
 
+-- ---- the carry: truth tables
+
+abbrev table : (Bool → Bool → Bool → Bool) → List Bool
+table f =
+    f true true true ∷ f true true false ∷ f true false true ∷ f true false false ∷ f false true true ∷ f false true false ∷ f false false true ∷ f false false false ∷ []
+
+-- two tests with one table agree
+same-table : (f g : Bool → Bool → Bool → Bool) → table f ≡ table g → (a b c : Bool) → f a b c ≡ g a b c
+same-table f g e true true true = cc
+same-table f g e true true false = cc
+same-table f g e true false true = cc
+same-table f g e true false false = cc
+same-table f g e false true true = cc
+same-table f g e false true false = cc
+same-table f g e false false true = cc
+same-table f g e false false false = cc
+
 pub both-law : (α : Assignment) (p q t : Literal) → satisfies α (both p q t) ≡ Bool·beq (value α t) (at-least-two (total α 0 (p ∷ q ∷ [])))
 unfolding both
-both-law α p q t = simp flips-not (go (value α p) (value α q) (value α t))
-  where
-    go : (a b t : Bool) → (a || (not t || false)) && ((b || (not t || false)) && ((not a || (not b || (t || false))) && true)) ≡ Bool·beq t (at-least-two (up b (up a 0)))
-    go true true true = refl
-    go true true false = refl
-    go true false true = refl
-    go true false false = refl
-    go false true true = refl
-    go false true false = refl
-    go false false true = refl
-    go false false false = refl
+both-law α p q t =
+    simp flips-not
+    (same-table (λ a b t. (a || (not t || false)) && ((b || (not t || false)) && ((not a || (not b || (t || false))) && true))) (λ a b t. Bool·beq t (at-least-two (up b (up a 0))))
+    refl (value α p) (value α q) (value α t))
 
 pub either-law : (α : Assignment) (p q t : Literal) → satisfies α (either p q t) ≡ Bool·beq (value α t) (at-least-two (total α 1 (p ∷ q ∷ [])))
 unfolding either
-either-law α p q t = simp flips-not (go (value α p) (value α q) (value α t))
-  where
-    go : (a b t : Bool) → (not a || (t || false)) && ((not b || (t || false)) && ((a || (b || (not t || false))) && true)) ≡ Bool·beq t (at-least-two (up b (up a 1)))
-    go true true true = refl
-    go true true false = refl
-    go true false true = refl
-    go true false false = refl
-    go false true true = refl
-    go false true false = refl
-    go false false true = refl
-    go false false false = refl
+either-law α p q t =
+    simp flips-not
+    (same-table (λ a b t. (not a || (t || false)) && ((not b || (t || false)) && ((a || (b || (not t || false))) && true))) (λ a b t. Bool·beq t (at-least-two (up b (up a 1))))
+    refl (value α p) (value α q) (value α t))
+
+-- the test of `most`'s clauses
+abbrev most-test : Bool → Bool → Bool → Bool → Bool
+most-test a b c t =
+    (a || (b || (not t || false))) && ((a || (c || (not t || false))) && ((b || (c || (not t || false)))
+    && ((not a || (not b || (t || false))) && ((not a || (not c || (t || false))) && ((not b || (not c || (t || false))) && true)))))
 
 pub most-law : (α : Assignment) (p q r t : Literal) → satisfies α (most p q r t) ≡ Bool·beq (value α t) (at-least-two (total α 0 (p ∷ q ∷ r ∷ [])))
 unfolding most
-most-law α p q r t = simp flips-not (go (value α p) (value α q) (value α r) (value α t))
+most-law α p q r t = simp flips-not (go (value α p))
   where
-    go : (a b c t : Bool)
-        → (a || (b || (not t || false))) && ((a || (c || (not t || false))) && ((b || (c || (not t || false)))
-        && ((not a || (not b || (t || false))) && ((not a || (not c || (t || false))) && ((not b || (not c || (t || false))) && true)))))
-        ≡ Bool·beq t (at-least-two (up c (up b (up a 0))))
-    go true true true true = refl
-    go true true true false = refl
-    go true true false true = refl
-    go true true false false = refl
-    go true false true true = refl
-    go true false true false = refl
-    go true false false true = refl
-    go true false false false = refl
-    go false true true true = refl
-    go false true true false = refl
-    go false true false true = refl
-    go false true false false = refl
-    go false false true true = refl
-    go false false true false = refl
-    go false false false true = refl
-    go false false false false = refl
+    go : (a : Bool) → most-test a (value α q) (value α r) (value α t) ≡ Bool·beq (value α t) (at-least-two (up (value α r) (up (value α q) (up a 0))))
+    go true = same-table (most-test true) (λ b c t. Bool·beq t (at-least-two (up c (up b 1)))) refl (value α q) (value α r) (value α t)
+    go false = same-table (most-test false) (λ b c t. Bool·beq t (at-least-two (up c (up b 0)))) refl (value α q) (value α r) (value α t)

@@ -15,7 +15,7 @@ use Rattle.line.specs.declared.Refusal.{Refusal}
 use Rattle.line.specs.declared.Refusal.the-variants.{Constant, Width, Length, Form, Operand, Even, Value, Product, BitRoom, ClauseRoom, WorkRoom, RecipeRoom, Input}
 use Rattle.recipe.specs.Accepted.{Makes, Right}
 use Rattle.recipe.specs.Check.{recipe-checked}
-use Rattle.recipe.proofs.Accepted.{accepted-makes, makes-accepted}
+use Rattle.recipe.proofs.Accepted.{neither, accepted-makes, makes-accepted}
 use Rattle.recipe.specs.declared.Checked.{Checked}
 use Rattle.recipe.specs.declared.Checked.the-variants as check
 use Rattle.product.specs.Bit.{stored}
@@ -51,10 +51,6 @@ passed false x later e = (refl, e)
 accepted : (k : Checked) (later : Written) → written-number (if-accepted k later) ≡ 0 → (k ≡ check.Accepted) × (written-number later ≡ 0)
 accepted check.Accepted later e = (refl, e)
 accepted (check.Refused x) later e = absurd (omega (arith, refusal-above-0 x))
-
-neither : (a b : Bool) → a || b ≡ false → (a ≡ false) × (b ≡ false)
-neither true b e = let z : _≡_ {A = ℕ} 0 1 = cc in absurd (omega arith)
-neither false b e = (refl, e)
 
 pub record Passes (c w : ℕ) (recipe : List ℕ) (bits clauses : ℕ) : Type 0 where
   pub constant : (0 < c) × (c ≤ 65535)

@@ -32,7 +32,7 @@ digit : ℕ → ℕ → Bool
 digit x zero = odd x
 digit x (suc i) = digit (x / 2) i
 
-odd-mod : (x : ℕ) → num (odd x) ≡ x % 2
+pub odd-mod : (x : ℕ) → num (odd x) ≡ x % 2
 odd-mod x = omega (arith, halves x .1, num-le (odd x))
 
 reads-digits : (w v x : ℕ) (α : Assignment) → x < 2 ^ w → ((i : ℕ) → i < w → α (v + i) ≡ digit x i) → reads α (variables v w) ≡ x

@@ -36,6 +36,7 @@ use Rattle.recipe.specs.declared.Verdict.the-variants.{Kept, Broken}
 use Rattle.recipe.specs.Check.{claims, judged, judged-at, line-at, coefficient-at, unless-broken, lines-checked, recipe-checked, out-of-range, checked}
 use Rattle.recipe.specs.Accepted.{Line-right, Makes, Right}
 use Rattle.recipe.proofs.Claims.{claims-true, true-claims}
+use Rattle.recipe.proofs.Walk.{judged-value}
 
 -- ---- a chain of tests that refuses nothing has passed them all; it may be of any type of answers, of which `good` is no refusal
 
@@ -78,16 +79,9 @@ module _ (line : Line) (i l r : ℕ) where
       }
 
   right-kept : Line-right line i l r → judged line i l r ≡ Kept
-  unfolding judged
   right-kept g =
-      simp (
-        le-ltb 0 (line .top) (omega arith),
-        ne-eqb (line .kind) 0 (omega arith),
-        le-ltb i (line .left) (g .left),
-        le-ltb i (line .right) (g .right),
-        ne-eqb (line .coefficient % 2) 0 (omega arith),
-        true-claims (line .coefficient) (gives (kind-of (line .kind)) l (line .shift) r) (g .value),
-      )
+      let z = gives (kind-of (line .kind)) l (line .shift) r in
+      judged-value line i l r true (omega arith) (omega arith) (g .left) (g .right) (omega arith) (sym (true-claims (line .coefficient) z (g .value)))
 
 -- ---- the lines and their product
 
@@ -152,7 +146,7 @@ module _ (d : ℕ) (s : List ℕ) where
 
 -- ---- the whole check
 
-neither : (t u : Bool) → t || u ≡ false → (t ≡ false) × (u ≡ false)
+pub neither : (t u : Bool) → t || u ≡ false → (t ≡ false) × (u ≡ false)
 neither true u e = let z : _≡_ {A = ℕ} 0 1 = cc in absurd (omega arith)
 neither false u e = (refl, e)
 
@@ -171,10 +165,6 @@ pub right-accepted : (c : ℕ) (s : List ℕ) → Right c s → checked c s ≡ 
 unfolding checked
 right-accepted c s g =
     simp (ne-eqb c 0 (omega arith), le-ltb 65535 c (g .most)) (makes-accepted (odd-part c) s (g .makes))
-
--- two answers that meet the check's contract are the same
-pub checked-once : (c : ℕ) (s : List ℕ) (x y : Checked) → x ≡ checked c s → y ≡ checked c s → x ≡ y
-checked-once c s x y p q = cc
 
 -- ---- what follows of a right recipe
 

@@ -9,7 +9,7 @@ use native.Mathlib.Omega.{arith}
 use lib.Dec.{eqb, ltb, lit<}
 use lib.ListN.{length, getD, set, take, drop, length-set}
 use lib.Seq.{getD-set-same, getD-set-other}
-use borrow.Author.Tests.{eq-eqb, le-ltb, ltb-false}
+use borrow.Author.Tests.{eq-eqb, ne-eqb, le-ltb, ltb-false}
 use Rattle.line.specs.Line.{kind-of, gives, line-of, number}
 use Rattle.line.specs.declared.Line.{Line}
 use Rattle.line.specs.declared.Refusal.{Refusal}
@@ -77,10 +77,17 @@ judged-same line i l l′ r r′ hl hr =
     ap₂ (λ (x y : ℕ). cond (eqb (line .coefficient % 2) 0) (Broken Even) (cond (claims (line .coefficient) (gives (kind-of (line .kind)) x (line .shift) y)) Kept (Broken Value)))
     (hl (ltb-false _ _ e)) (hr (ltb-false _ _ e′)))))
 
-pub judged-seen : (s seen : List ℕ) (line : Line) (i : ℕ) → line ≡ line-at s i → ((j : ℕ) → j ≤ i → getD seen j 0 ≡ coefficient-at s j)
-    → judged line i (getD seen (line .left) 0) (getD seen (line .right) 0) ≡ judged-at s i
-judged-seen s seen line i e h =
-    ap (λ (l : Line). judged l i (getD seen (l .left) 0) (getD seen (l .right) 0)) e
+-- rules 4 to 6 kept: only the value is left, of which b says whether it is the claimed one
+pub judged-value : (line : Line) (i l r : ℕ) (b : Bool) → line .top ≤ 0 → (line .kind ≡ 0 → ⊥) → line .left ≤ i → line .right ≤ i → (line .coefficient % 2 ≡ 0 → ⊥)
+    → b ≡ claims (line .coefficient) (gives (kind-of (line .kind)) l (line .shift) r) → judged line i l r ≡ cond b Kept (Broken Value)
+unfolding judged
+judged-value line i l r b top kind left right even e =
+    simp (le-ltb 0 (line .top) top, ne-eqb (line .kind) 0 kind, le-ltb i (line .left) left, le-ltb i (line .right) right, ne-eqb (line .coefficient % 2) 0 even, e)
+
+pub judged-seen : (s seen : List ℕ) (line : Line) (i : ℕ) (v : Verdict) → v ≡ judged line i (getD seen (line .left) 0) (getD seen (line .right) 0) → line ≡ line-at s i
+    → ((j : ℕ) → j ≤ i → getD seen j 0 ≡ coefficient-at s j) → v ≡ judged-at s i
+judged-seen s seen line i v q e h =
+    q ∙ ap (λ (l : Line). judged l i (getD seen (l .left) 0) (getD seen (l .right) 0)) e
     ∙ judged-same (line-at s i) i _ _ _ _ (h (line-at s i .left)) (h (line-at s i .right))
 
 -- one coefficient more

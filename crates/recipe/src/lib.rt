@@ -54,7 +54,7 @@ fn holds(kind: u64, l: u64, s: u64, r: u64, k: u64) -> bool
 }
 
 // What the rules say of line i + 1, given the coefficients of the operands before it.
-pub(crate) fn judge(line: Line, i: usize, seen: &[u64; Line::MOST_LINES + 1]) -> Verdict
+fn judge(line: Line, i: usize, seen: &[u64; Line::MOST_LINES + 1]) -> Verdict
     requires { ⌜ i < 32 ⌝ }
     requires { ⌜ (line .shift < 32) × (line .coefficient < 2 ^ 20) ⌝ }
     requires { ⌜ ((j : ℕ) → j ≤ i → getD (now seen) j 0 < 2 ^ 20) ⌝ }
@@ -111,7 +111,7 @@ pub fn check_lines(d: u64, recipe: &[u8]) -> Checked
         }
         let a = i * Line::BYTES;
         let e = a + Line::BYTES;
-        let line = line::read_line(&recipe[a..e]);
+        let line = Line::read(&recipe[a..e]);
         match judge(line, i, &seen) {
             Verdict::Kept => {}
             Verdict::Broken(x) => break Checked::Refused(x),

@@ -15,12 +15,9 @@ use Rattle.split.specs.Split.{high, legal-at, legal}
 use Rattle.split.specs.Reach.{turn, fuel}
 use Rattle.split.specs.Choose.{Cost, lines, Chosen, pick, better, best-below, choose, Rule, split-by, split-for, split-of, look}
 use Rattle.split.specs.declared.Best.{Best}
-use Rattle.line.proofs.Number.{bits-pos, bits-lt}
+use Rattle.line.proofs.Number.{lt-or-le, bits-pos, bits-lt}
 use Rattle.split.proofs.Sets.{bool}
 use Rattle.split.proofs.Reach.{Legal, Agree, Depends, lines-depend, turn-pos, turn-bits, odd-case, turn-fuel}
-
-pub lt-or-le : (a b : ℕ) → (a < b) ⊎ (b ≤ a)
-lt-or-le a b = elim (decLt a b) [ yes h ↦ inl h | no h ↦ inr (omega arith) ]
 
 pub same-or : (a b : ℕ) → (a ≡ b) ⊎ (a ≡ b → ⊥)
 same-or a b = elim (ℕ-discrete a b) [ yes e ↦ inl e | no e ↦ inr e ]
@@ -39,7 +36,7 @@ pub pick-more : (s k : ℕ) (b : Best) → 0 < b .split → b .cost ≤ k → pi
 unfolding pick
 pick-more s k b h l = rw (ne-eqb (b .split) 0 (omega arith), le-ltb k (b .cost) l, pick)
 
-pub better-not : (cost : Cost) (t : ℕ → ℕ) (n s : ℕ) (b : Best) → legal s n ≡ false → better cost t n s b ≡ b
+better-not : (cost : Cost) (t : ℕ → ℕ) (n s : ℕ) (b : Best) → legal s n ≡ false → better cost t n s b ≡ b
 unfolding better
 better-not cost t n s b e = rw (e, better)
 
@@ -166,7 +163,7 @@ chosen-one cost t n r s c d = le-antisymm
 
 -- ---- what the choice depends on
 
-pub below : (n : ℕ) → bit-length n < 32 → (m : ℕ) → turn m < turn n → bit-length m < 32
+below : (n : ℕ) → bit-length n < 32 → (m : ℕ) → turn m < turn n → bit-length m < 32
 below n few m l = omega (arith, turn-bits m n (omega arith))
 
 split-one : (cost : Cost) (f n : ℕ) → n < 2 → split-by cost f n ≡ 0

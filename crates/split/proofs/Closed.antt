@@ -1,6 +1,6 @@
 -- What a number reaches holds the operands of its members and all that they reach; nothing in it comes later than the number, or has more bits.
 use Prim.Native.Nat.{ℕ, zero, suc, _%_, _≤_, _<_}
-use mathlib.Core.Path.{_≡_, sym, ap, _∙_, subst}
+use mathlib.Core.Path.{_≡_, refl, sym, ap, _∙_, subst}
 use mathlib.Core.Bool.{true, false, false≢true}
 use mathlib.Core.List.{List, [], _∷_, _++_}
 use mathlib.Core.Logic.{_⊎_, inl, inr, ⊎-elim}
@@ -10,7 +10,7 @@ use Rattle.line.specs.Number.{bit-length}
 use Rattle.split.specs.Split.{kind, left, right}
 use Rattle.split.specs.Order.{rank}
 use Rattle.split.specs.Reach.{turn, follow, reach, member, add, adds, set-of, Held}
-use Rattle.split.proofs.Splits.{Operands, operands}
+use Rattle.split.proofs.Splits.{Operand, Operands, operands}
 use Rattle.split.proofs.Sets.{bool, member-none, member-left, member-last, member-other, member-right, member-both, adds-append, adds-one, adds-keeps, adds-has, adds-from, Within}
 use Rattle.split.proofs.Reach.{Legal, turn-pos, turn-bits, odd-case, reach-1, reach-step}
 
@@ -33,73 +33,57 @@ reach-self t n ok odd fits = ⊎-elim
     ∙ member-right n (reach t (left (t n) n)) (reach t (right (t n) n) ++ (n ∷ [])) (member-last n (reach t (right (t n) n)))))
     (odd-case n odd)
 
-module _ (t : ℕ → ℕ) (n : ℕ) (big : 1 < n) (odd : n % 2 ≡ 1) (fits : bit-length n < 64) (ok : Legal t (suc (turn n)))
-    (o : Operands (kind (t n)) (t n % 32) n (left (t n) n) (right (t n) n))
-    (cl : Closed t (left (t n) n) (reach t (left (t n) n))) (cr : Closed t (right (t n) n) (reach t (right (t n) n))) where
-  L : List ℕ
-  L = reach t (left (t n) n)
+-- a number above 1 that is reached: its operands are reached with it, or are 1
+record Here (t : ℕ → ℕ) (n : ℕ) : Type 0 where
+  big : 1 < n
+  odd : n % 2 ≡ 1
+  has-left : Has (left (t n) n) (reach t n)
+  has-right : Has (right (t n) n) (reach t n)
 
-  R : List ℕ
-  R = reach t (right (t n) n)
+-- what holds of each number itself, and goes on from an operand to the number, holds of all that a number reaches
+module _ (t : ℕ → ℕ) (P : ℕ → ℕ → Type 0) (here : (n : ℕ) → Here t n → P n n)
+    (on : (n m x : ℕ) → Operand n m → Within (reach t m) (reach t n) → P m x → P n x) where
+  along : (f n : ℕ) → turn n ≤ f → Legal t (suc (turn n)) → n % 2 ≡ 1 → bit-length n < 64 → (x : ℕ) → member x (reach t n) ≡ true → P n x
+  unfolding follow
+  along zero n h ok odd fits x m = absurd (omega (arith, turn-pos n))
+  along (suc f) n h ok odd fits x m = ⊎-elim
+      (λ e. absurd (false≢true (sym (member-none x) ∙ sym (ap (member x) (ap (reach t) e ∙ reach-1 t)) ∙ m)))
+      (λ big.
+      let l : ℕ = left (t n) n in
+      let r : ℕ = right (t n) n in
+      let o : Operands (kind (t n)) (t n % 32) n l r = operands (t n) n big odd fits (ok n big odd (le-refl (suc (turn n)))) in
+      let L : List ℕ = reach t l in
+      let R : List ℕ = reach t r in
+      let is : reach t n ≡ L ++ (R ++ (n ∷ [])) = reach-step t n ok big odd fits in
+      let from-left : Within L (reach t n) = λ y q. ap (member y) is ∙ member-left y L (R ++ (n ∷ [])) q in
+      let from-right : Within R (reach t n) = λ y q. ap (member y) is ∙ member-right y L (R ++ (n ∷ [])) (member-left y R (n ∷ []) q) in
+      let ok-to : (m : ℕ) → Operand n m → Legal t (suc (turn m)) = λ m p j b d q. ok j b d (omega (arith, p .turn)) in
+      let itself : Here t n = record {
+        big = big;
+        odd = odd;
+        has-left = wider l L (reach t n) from-left (reach-self t l (ok-to l (o .left)) (o .left .odd) (omega (arith, o .left .bits)));
+        has-right = wider r R (reach t n) from-right (reach-self t r (ok-to r (o .right)) (o .right .odd) (omega (arith, o .right .bits)));
+      } in
+      let down : (m : ℕ) → Operand n m → Within (reach t m) (reach t n) → member x (reach t m) ≡ true → P n x =
+      λ m p w q. on n m x p w (along f m (omega (arith, p .turn)) (ok-to m p) (p .odd) (omega (arith, p .bits)) x q) in
+      ⊎-elim (down l (o .left) from-left)
+      (λ b. ⊎-elim (down r (o .right) from-right) (λ e. subst (P n) (sym e) (here n itself)) (member-other x n R b))
+      (member-both x L (R ++ (n ∷ [])) (sym (ap (member x) is) ∙ m)))
+      (odd-case n odd)
 
-  all : List ℕ
-  all = L ++ (R ++ (n ∷ []))
-
-  in-left : (x : ℕ) → member x L ≡ true → member x all ≡ true
-  unfolding all
-  in-left x m = member-left x L (R ++ (n ∷ [])) m
-
-  in-right : (x : ℕ) → member x R ≡ true → member x all ≡ true
-  unfolding all
-  in-right x m = member-right x L (R ++ (n ∷ [])) (member-left x R (n ∷ []) m)
-
-  Good : ℕ → Type 0
-  Good x = (1 < x) × (x % 2 ≡ 1) × (turn x ≤ turn n) × Has (left (t x) x) all × Has (right (t x) x) all
-
-  by-left : (x : ℕ) → member x L ≡ true → Good x
-  unfolding Good L
-  by-left x m = let g = cl .member x m in (g .0, g .1, omega (arith, o .left-turn, g .2), wider (left (t x) x) L all in-left (g .3), wider (right (t x) x) L all in-left (g .4))
-
-  by-right : (x : ℕ) → member x R ≡ true → Good x
-  unfolding Good R
-  by-right x m = let g = cr .member x m in (g .0, g .1, omega (arith, o .right-turn, g .2), wider (left (t x) x) R all in-right (g .3), wider (right (t x) x) R all in-right (g .4))
-
-  itself : Good n
-  unfolding Good L R
-  itself = (
-    big,
-    odd,
-    le-refl (turn n),
-    wider (left (t n) n) L all in-left (reach-self t (left (t n) n) (λ m b d r. ok m b d (omega (arith, o .left-turn))) (o .left-odd) (omega (arith, o .left-bits))),
-    wider (right (t n) n) R all in-right (reach-self t (right (t n) n) (λ m b d r. ok m b d (omega (arith, o .right-turn))) (o .right-odd) (omega (arith, o .right-bits))),
-  )
-
-  whole : Closed t n all
-  unfolding Good all
-  whole = record {
-    member = λ x m. ⊎-elim (by-left x)
-        (λ m′. ⊎-elim (by-right x) (λ e. subst Good (sym e) itself) (member-other x n R m′))
-        (member-both x L (R ++ (n ∷ [])) m);
-  }
-
-pub reach-closed : (f : ℕ) (t : ℕ → ℕ) (n : ℕ) → turn n ≤ f → Legal t (suc (turn n)) → n % 2 ≡ 1 → bit-length n < 64 → Closed t n (reach t n)
-unfolding whole all L R follow
-reach-closed zero t n h ok odd fits = record { member = λ x m. absurd (omega (arith, turn-pos n)) }
-reach-closed (suc f) t n h ok odd fits = ⊎-elim
-    (λ e. record { member = λ x m. absurd (false≢true (sym (member-none x) ∙ sym (ap (member x) (ap (reach t) e ∙ reach-1 t)) ∙ m)) })
-    (λ big.
-    let o : Operands (kind (t n)) (t n % 32) n (left (t n) n) (right (t n) n) = operands (t n) n big odd fits (ok n big odd (le-refl (suc (turn n)))) in
-    subst (λ (xs : List ℕ). Closed t n xs) (sym (reach-step t n ok big odd fits))
-    (whole t n big odd fits ok o
-    (reach-closed f t (left (t n) n) (omega arith) (λ m b d r. ok m b d (omega arith)) (o .left-odd) (omega arith))
-    (reach-closed f t (right (t n) n) (omega arith) (λ m b d r. ok m b d (omega arith)) (o .right-odd) (omega arith))))
-    (odd-case n odd)
+pub reach-closed : (t : ℕ → ℕ) (n : ℕ) → Legal t (suc (turn n)) → n % 2 ≡ 1 → bit-length n < 64 → Closed t n (reach t n)
+reach-closed t n ok odd fits = record {
+  member = along t (λ m x. (1 < x) × (x % 2 ≡ 1) × (turn x ≤ turn m) × Has (left (t x) x) (reach t m) × Has (right (t x) x) (reach t m))
+      (λ m h. (h .big, h .odd, le-refl (turn m), h .has-left, h .has-right))
+      (λ m k x o w g. (g .0, g .1, omega (arith, o .turn, g .2), wider (left (t x) x) (reach t k) (reach t m) w (g .3), wider (right (t x) x) (reach t k) (reach t m) w (g .4)))
+      (turn n) n (le-refl (turn n)) ok odd fits;
+}
 
 -- each coefficient of a set is odd and above 1, with its operands in the set or 1
 pub set-closed : (t : ℕ → ℕ) (d : ℕ) → Legal t (suc (turn d)) → d % 2 ≡ 1 → bit-length d < 64 → Closed t d (set-of t d)
 unfolding set-of
 set-closed t d ok odd fits =
-    let c = reach-closed (turn d) t d (le-refl (turn d)) ok odd fits in
+    let c = reach-closed t d ok odd fits in
     let up : Within (reach t d) (adds (reach t d) []) = adds-has (reach t d) [] in
     record {
       member = λ x m. ⊎-elim
@@ -115,55 +99,24 @@ set-bits t n ok odd fits x m = turn-bits x n (set-closed t n ok odd fits .member
 -- ---- reaching is transitive
 
 module _ (t : ℕ → ℕ) where
-  pub reach-trans : (f n : ℕ) → turn n ≤ f → Legal t (suc (turn n)) → n % 2 ≡ 1 → bit-length n < 64 → (x : ℕ) → member x (reach t n) ≡ true → Within (reach t x) (reach t n)
-  unfolding follow
-  reach-trans zero n h ok odd fits x m = absurd (omega (arith, turn-pos n))
-  reach-trans (suc f) n h ok odd fits x m = ⊎-elim
-      (λ e. absurd (false≢true (sym (member-none x) ∙ sym (ap (member x) (ap (reach t) e ∙ reach-1 t)) ∙ m)))
-      (λ big.
-      let o : Operands (kind (t n)) (t n % 32) n (left (t n) n) (right (t n) n) = operands (t n) n big odd fits (ok n big odd (le-refl (suc (turn n)))) in
-      let L = reach t (left (t n) n) in
-      let R = reach t (right (t n) n) in
-      let is : reach t n ≡ L ++ (R ++ (n ∷ [])) = reach-step t n ok big odd fits in
-      ⊎-elim
-      (λ a y q. ap (member y) is ∙ member-left y L (R ++ (n ∷ [])) (reach-trans f (left (t n) n) (omega arith) (λ j b d r. ok j b d (omega arith)) (o .left-odd) (omega arith) x a y q))
-      (λ b. ⊎-elim
-      (λ a y q. ap (member y) is ∙ member-right y L (R ++ (n ∷ [])) (member-left y R (n ∷ []) (reach-trans f (right (t n) n) (omega arith) (λ j b d r. ok j b d (omega arith)) (o .right-odd) (omega arith) x a y q)))
-      (λ e y q. subst (λ (z : ℕ). member y (reach t z) ≡ true) e q)
-      (member-other x n R b))
-      (member-both x L (R ++ (n ∷ [])) (sym (ap (member x) is) ∙ m)))
-      (odd-case n odd)
+  reach-trans : (n : ℕ) → Legal t (suc (turn n)) → n % 2 ≡ 1 → bit-length n < 64 → (x : ℕ) → member x (reach t n) ≡ true → Within (reach t x) (reach t n)
+  reach-trans n = along t (λ m x. Within (reach t x) (reach t m)) (λ m h y q. q) (λ m k x o w g y q. w y (g y q)) (turn n) n (le-refl (turn n))
 
   -- what is reached is the number itself or comes before it in (bit length, zero bits)
-  pub reach-falls : (f n : ℕ) → turn n ≤ f → Legal t (suc (turn n)) → n % 2 ≡ 1 → bit-length n < 64 → (x : ℕ) → member x (reach t n) ≡ true → (x ≡ n) ⊎ (rank x < rank n)
-  unfolding follow
-  reach-falls zero n h ok odd fits x m = absurd (omega (arith, turn-pos n))
-  reach-falls (suc f) n h ok odd fits x m = ⊎-elim
-      (λ e. absurd (false≢true (sym (member-none x) ∙ sym (ap (member x) (ap (reach t) e ∙ reach-1 t)) ∙ m)))
-      (λ big.
-      let o : Operands (kind (t n)) (t n % 32) n (left (t n) n) (right (t n) n) = operands (t n) n big odd fits (ok n big odd (le-refl (suc (turn n)))) in
-      let L = reach t (left (t n) n) in
-      let R = reach t (right (t n) n) in
-      let below : (y : ℕ) → rank y < rank n → (x ≡ y) ⊎ (rank x < rank y) → rank x < rank n = λ y l. ⊎-elim (λ e. omega (arith, ap rank e)) (λ r. omega arith) in
-      ⊎-elim
-      (λ a. inr (below (left (t n) n) (o .left-falls) (reach-falls f (left (t n) n) (omega arith) (λ j b d r. ok j b d (omega arith)) (o .left-odd) (omega arith) x a)))
-      (λ b. ⊎-elim
-      (λ a. inr (below (right (t n) n) (o .right-falls) (reach-falls f (right (t n) n) (omega arith) (λ j b d r. ok j b d (omega arith)) (o .right-odd) (omega arith) x a)))
-      (λ e. inl e)
-      (member-other x n R b))
-      (member-both x L (R ++ (n ∷ [])) (sym (ap (member x) (reach-step t n ok big odd fits)) ∙ m)))
-      (odd-case n odd)
+  pub reach-falls : (n : ℕ) → Legal t (suc (turn n)) → n % 2 ≡ 1 → bit-length n < 64 → (x : ℕ) → member x (reach t n) ≡ true → (x ≡ n) ⊎ (rank x < rank n)
+  reach-falls n = along t (λ m x. (x ≡ m) ⊎ (rank x < rank m)) (λ m h. inl refl)
+      (λ m k x o w g. inr (⊎-elim (λ e. omega (arith, o .falls, ap rank e)) (λ r. omega (arith, o .falls)) g)) (turn n) n (le-refl (turn n))
 
   pub held-adds : (n : ℕ) → Legal t (suc (turn n)) → n % 2 ≡ 1 → bit-length n < 64 → (base : List ℕ) → Held t base → Held t (adds (reach t n) base)
   held-adds n ok odd fits base h x m y q = ⊎-elim
       (λ a. adds-keeps (reach t n) base y (h x a y q))
-      (λ a. adds-has (reach t n) base y (reach-trans (turn n) n (le-refl (turn n)) ok odd fits x a y q))
+      (λ a. adds-has (reach t n) base y (reach-trans n ok odd fits x a y q))
       (adds-from (reach t n) base x m)
 
   -- what is reached stands no later
   pub later : (n x : ℕ) → Legal t (suc (turn x)) → x % 2 ≡ 1 → bit-length x < 64 → turn x < turn n → member n (reach t x) ≡ false
   later n x ok odd fits less = ⊎-elim
-      (λ m. absurd (omega (arith, reach-closed (turn x) t x (le-refl (turn x)) ok odd fits .member n m .2)))
+      (λ m. absurd (omega (arith, reach-closed t x ok odd fits .member n m .2)))
       (λ m. m)
       (bool (member n (reach t x)))
 

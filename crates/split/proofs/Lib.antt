@@ -6,5 +6,6 @@ pub mod Reach
 pub mod Choose
 pub mod Closed
 pub mod Order
+pub mod Earlier
 pub mod Lines
 pub mod Form

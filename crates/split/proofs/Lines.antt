@@ -66,15 +66,15 @@ in-same (suc f) (suc g) n h k = go (in-same f g (n / 2)) (in-same f g (n / 2 + 1
     go a b (up e) = in-plus f n e ∙ ap suc (a (omega arith) (omega arith)) ∙ sym (in-plus g n e)
     go a b (down e) = in-minus f n e ∙ ap suc (b (omega arith) (omega arith)) ∙ sym (in-minus g n e)
 
-pub weight-even : (n : ℕ) → 0 < n → n % 2 ≡ 0 → form-weight n ≡ form-weight (n / 2)
+weight-even : (n : ℕ) → 0 < n → n % 2 ≡ 0 → form-weight n ≡ form-weight (n / 2)
 unfolding form-weight signed-form
 weight-even n p e = in-even n n p e ∙ in-same n (suc (n / 2)) (n / 2) (omega arith) (omega arith)
 
-pub weight-plus : (n : ℕ) → n % 4 ≡ 1 → form-weight n ≡ suc (form-weight (n / 2))
+weight-plus : (n : ℕ) → n % 4 ≡ 1 → form-weight n ≡ suc (form-weight (n / 2))
 unfolding form-weight signed-form
 weight-plus n e = in-plus n n e ∙ ap suc (in-same n (suc (n / 2)) (n / 2) (omega arith) (omega arith))
 
-pub weight-minus : (n : ℕ) → n % 4 ≡ 3 → form-weight n ≡ suc (form-weight (n / 2 + 1))
+weight-minus : (n : ℕ) → n % 4 ≡ 3 → form-weight n ≡ suc (form-weight (n / 2 + 1))
 unfolding form-weight signed-form
 weight-minus n e = in-minus n n e ∙ ap suc (in-same n (suc (n / 2 + 1)) (n / 2 + 1) (omega arith) (omega arith))
 
@@ -153,28 +153,29 @@ by-split n k p m big odd few one three hp e l r =
     let rm : right s n ≡ 1 = ap₂ (λ (a b : ℕ). right-at (kind-of a) b n) ek ep ∙ r in
     omega (arith, ap (line-count split-of) lm, ap (line-count split-of) rm, lines-1 split-of)
 
+-- the power above m's place, and m there
+above : (m j : ℕ) → (m * 2 ^ suc j ≡ m * 2 ^ j + m * 2 ^ j) × (1 < 2 ^ suc j)
+above m j = (ap (λ (x : ℕ). m * x) (two-pow-succ j) ∙ mul-add m (2 ^ j) (2 ^ j), omega (arith, two-pow-succ j, pow-pos j))
+
 module _ (n : ℕ) (big : 1 < n) (odd : n % 2 ≡ 1) (few : bit-length n < 32) where
+  ends : {h : ℕ} (o : Halved h) → o .m < n → form-weight n ≡ suc (form-weight h) → line-count split-of n ≤ suc (line-count split-of (o .m)) → Down n
+  ends o less weighs lines = record { m = o .m; odd = o .odd; less = less; weighs = weighs ∙ ap suc (o .same); lines = lines }
+
   go-up : n % 4 ≡ 1 → Down n
   unfolding kind-of legal-at left-at right-at high low
   go-up e =
       let o : Halved (n / 2) = halved (n / 2) (n / 2) (le-refl (n / 2)) (omega arith) in
       let P : ℕ = 2 ^ suc (o .j) in
       let m : ℕ = o .m in
-      let mP : m * P ≡ m * 2 ^ o .j + m * 2 ^ o .j = ap (λ (x : ℕ). m * x) (two-pow-succ (o .j)) ∙ mul-add m (2 ^ o .j) (2 ^ o .j) in
-      let is : n ≡ m * P + 1 = omega (arith, o .is) in
-      let P2 : 1 < P = omega (arith, two-pow-succ (o .j), pow-pos (o .j)) in
-      let hi : n / P ≡ m = ap (λ (x : ℕ). x / P) is ∙ digits-div m P2 in
-      let lo : n % P ≡ 1 = ap (λ (x : ℕ). x % P) is ∙ digits-mod m P2 in
+      let a = above m (o .j) in
+      let is : n ≡ m * P + 1 = omega (arith, a .0, o .is) in
+      let hi : n / P ≡ m = ap (λ (x : ℕ). x / P) is ∙ digits-div m (a .1) in
+      let lo : n % P ≡ 1 = ap (λ (x : ℕ). x % P) is ∙ digits-mod m (a .1) in
       let Pn : P ≤ n = omega (arith, mul-le-mul-right {m = 1} {n = m} P (omega (arith, o .odd)), one-mul P) in
       let pb : suc (o .j) < bit-length n = bits-gt (suc (o .j)) n Pn in
-      record {
-        m = m;
-        odd = o .odd;
-        less = omega (arith, o .le);
-        weighs = weight-plus n e ∙ ap suc (o .same);
-        lines = by-split n 1 (suc (o .j)) m big odd few (omega arith) (omega arith) (omega arith)
-            (rw (le-leb 1 (suc (o .j)) (omega arith), lt-ltb (suc (o .j)) (bit-length n) pb, hi, o .odd, legal-at)) hi lo;
-      }
+      ends o (omega (arith, o .le)) (weight-plus n e)
+      (by-split n 1 (suc (o .j)) m big odd few (omega arith) (omega arith) (omega arith)
+      (rw (le-leb 1 (suc (o .j)) (omega arith), lt-ltb (suc (o .j)) (bit-length n) pb, hi, o .odd, legal-at)) hi lo)
 
   go-down : n % 4 ≡ 3 → Down n
   unfolding kind-of legal-at left-at right-at high low
@@ -182,24 +183,18 @@ module _ (n : ℕ) (big : 1 < n) (odd : n % 2 ≡ 1) (few : bit-length n < 32) w
       let o : Halved (n / 2 + 1) = halved (n / 2 + 1) (n / 2 + 1) (le-refl (n / 2 + 1)) (omega arith) in
       let P : ℕ = 2 ^ suc (o .j) in
       let m : ℕ = o .m in
-      let mP : m * P ≡ m * 2 ^ o .j + m * 2 ^ o .j = ap (λ (x : ℕ). m * x) (two-pow-succ (o .j)) ∙ mul-add m (2 ^ o .j) (2 ^ o .j) in
-      let P1 : 1 < P = omega (arith, two-pow-succ (o .j), pow-pos (o .j)) in
+      let a = above m (o .j) in
       let mm : m * P ≡ (m - 1) * P + P = ap (λ (x : ℕ). x * P) {y = suc (m - 1)} (omega (arith, o .odd)) ∙ suc-mul (m - 1) P in
-      let is : n ≡ (m - 1) * P + (P - 1) = omega (arith, o .is) in
-      let r : P - 1 < P = omega arith in
+      let is : n ≡ (m - 1) * P + (P - 1) = omega (arith, a .0, o .is, mm) in
+      let r : P - 1 < P = omega (arith, a .1) in
       let hi : n / P ≡ m - 1 = ap (λ (x : ℕ). x / P) is ∙ digits-div (m - 1) r in
       let lo : n % P ≡ P - 1 = ap (λ (x : ℕ). x % P) is ∙ digits-mod (m - 1) r in
       let Pn : 2 ^ o .j ≤ n = omega (arith, two-pow-succ (o .j)) in
       let pb : suc (o .j) ≤ bit-length n = bits-gt (o .j) n Pn in
       let ev : (m - 1) % 2 ≡ 0 = omega (arith, o .odd) in
-      record {
-        m = m;
-        odd = o .odd;
-        less = omega (arith, o .le);
-        weighs = weight-minus n e ∙ ap suc (o .same);
-        lines = by-split n 2 (suc (o .j)) m big odd few (omega arith) (omega arith) (omega arith)
-            (rw (le-leb 1 (suc (o .j)) (omega arith), le-leb (suc (o .j)) (bit-length n) pb, hi, ev, legal-at)) (omega (arith, o .odd)) (omega arith);
-      }
+      ends o (omega (arith, o .le)) (weight-minus n e)
+      (by-split n 2 (suc (o .j)) m big odd few (omega arith) (omega arith) (omega arith)
+      (rw (le-leb 1 (suc (o .j)) (omega arith), le-leb (suc (o .j)) (bit-length n) pb, hi, ev, legal-at)) (omega (arith, o .odd)) (omega arith))
 
 down-one : (n : ℕ) → 1 < n → n % 2 ≡ 1 → bit-length n < 32 → Down n
 down-one n big odd few = go (shape n)
@@ -226,7 +221,7 @@ lines-signed n odd few = signed-by n n (le-refl n) odd few
 
 -- ---- the nonzero digits by the bit length: an odd number has at most half its length and one
 
-pub weight-zero : form-weight 0 ≡ 0
+weight-zero : form-weight 0 ≡ 0
 unfolding form-weight signed-form form-by nonzero
 weight-zero = refl
 

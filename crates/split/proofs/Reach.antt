@@ -40,7 +40,7 @@ reach-more : (f : ℕ) (t : ℕ → ℕ) (n : ℕ) → 2 ≤ n → reach-by (suc
 unfolding reach-by
 reach-more f t n h = rw (le-ltb n 2 h, reach-by)
 
-pub follow-cong : (r q : ℕ → List ℕ) (s n : ℕ) → r (left s n) ≡ q (left s n) → r (right s n) ≡ q (right s n) → follow r s n ≡ follow q s n
+follow-cong : (r q : ℕ → List ℕ) (s n : ℕ) → r (left s n) ≡ q (left s n) → r (right s n) ≡ q (right s n) → follow r s n ≡ follow q s n
 unfolding follow
 follow-cong r q s n d e = ap₂ (λ (a b : List ℕ). a ++ (b ++ (n ∷ []))) d e
 
@@ -57,8 +57,8 @@ same R t u ok ag (suc f) (suc g) n odd fits lt hf hg = ⊎-elim
     let o : Operands (kind (t n)) (t n % 32) n (left (t n) n) (right (t n) n) = operands (t n) n big odd fits (ok n big odd lt) in
     reach-more f t n big
     ∙ follow-cong (reach-by f t) (reach-by g u) (t n) n
-    (same R t u ok ag f g (left (t n) n) (o .left-odd) (omega arith) (omega arith) (omega arith) (omega arith))
-    (same R t u ok ag f g (right (t n) n) (o .right-odd) (omega arith) (omega arith) (omega arith) (omega arith))
+    (same R t u ok ag f g (left (t n) n) (o .left .odd) (omega arith) (omega arith) (omega arith) (omega arith))
+    (same R t u ok ag f g (right (t n) n) (o .right .odd) (omega arith) (omega arith) (omega arith) (omega arith))
     ∙ ap (λ (s : ℕ). follow (reach-by g u) s n) (ag n big odd lt)
     ∙ sym (reach-more g u n big))
     (odd-case n odd)
@@ -87,8 +87,8 @@ reach-step t n ok big odd fits =
     same R t t ok (λ m b o l. refl) F (suc F) n odd fits (le-refl R) rf (omega arith)
     ∙ reach-more F t n big
     ∙ follow-cong (reach-by F t) (λ m. reach-by (fuel m) t m) (t n) n
-    (same R t t ok (λ m b o l. refl) F (fuel (left (t n) n)) (left (t n) n) (o .left-odd) (omega arith) (omega arith) (omega arith) (turn-fuel (left (t n) n)))
-    (same R t t ok (λ m b o l. refl) F (fuel (right (t n) n)) (right (t n) n) (o .right-odd) (omega arith) (omega arith) (omega arith) (turn-fuel (right (t n) n)))
+    (same R t t ok (λ m b o l. refl) F (fuel (left (t n) n)) (left (t n) n) (o .left .odd) (omega arith) (omega arith) (omega arith) (turn-fuel (left (t n) n)))
+    (same R t t ok (λ m b o l. refl) F (fuel (right (t n) n)) (right (t n) n) (o .right .odd) (omega arith) (omega arith) (omega arith) (turn-fuel (right (t n) n)))
 
 -- ---- costs
 
@@ -103,5 +103,5 @@ lines-depend t u n ok ag big odd fits s e =
     let o : Operands (kind s) (s % 32) n (left s n) (right s n) = operands s n big odd fits e in
     ap (λ (l : List ℕ). length (adds l []))
     (follow-cong (reach t) (reach u) s n
-    (reach-cong (turn n) t u ok ag (left s n) (o .left-odd) (omega arith) (omega arith))
-    (reach-cong (turn n) t u ok ag (right s n) (o .right-odd) (omega arith) (omega arith)))
+    (reach-cong (turn n) t u ok ag (left s n) (o .left .odd) (omega arith) (omega arith))
+    (reach-cong (turn n) t u ok ag (right s n) (o .right .odd) (omega arith) (omega arith)))

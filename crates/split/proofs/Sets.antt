@@ -15,7 +15,7 @@ pub bool : (b : Bool) → (b ≡ true) ⊎ (b ≡ false)
 bool true = inl refl
 bool false = inr refl
 
-pub add-in : (x : ℕ) (base : List ℕ) → member x base ≡ true → add x base ≡ base
+add-in : (x : ℕ) (base : List ℕ) → member x base ≡ true → add x base ≡ base
 unfolding add
 add-in x base e = rw (e, add)
 

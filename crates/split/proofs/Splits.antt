@@ -19,19 +19,18 @@ use Rattle.split.specs.Order.{zero-bits, rank}
 use Rattle.line.proofs.Value.{gives-of-sums}
 use Rattle.line.proofs.Number.{bits-le, bits-lt, pow-le, bits-gt}
 
--- what is known of the operands l and r of n's split of a kind at p
+-- what is known of an operand m of n: it is odd, no longer, and comes before n
+pub record Operand (n m : ℕ) : Type 0 where
+  pub odd : m % 2 ≡ 1
+  pub bits : bit-length m ≤ bit-length n
+  pub turn : turn m < turn n
+  pub falls : rank m < rank n
+
+-- and of the operands l and r of n's split of a kind at p
 pub record Operands (k : Kind) (p n l r : ℕ) : Type 0 where
   pub value : pos n ≡ gives k l p r
-  pub left-odd : l % 2 ≡ 1
-  pub right-odd : r % 2 ≡ 1
-  pub left-least : 1 ≤ l
-  pub right-least : 1 ≤ r
-  pub left-falls : rank l < rank n
-  pub right-falls : rank r < rank n
-  pub left-turn : turn l < turn n
-  pub right-turn : turn r < turn n
-  pub left-bits : bit-length l ≤ bit-length n
-  pub right-bits : bit-length r ≤ bit-length n
+  pub left : Operand n l
+  pub right : Operand n r
 
 pub and₃ : (a b c : Bool) → a && b && c ≡ true → (a ≡ true) × (b ≡ true) × (c ≡ true)
 and₃ true true c e = (refl, refl, e)
@@ -72,7 +71,7 @@ pow-even k h = ap (λ (x : ℕ). 2 ^ x) {y = suc (k - 1)} (omega arith) ∙ two-
 
 -- ---- before n: by length, by zero bits, by value
 
-pub by-bits : (m n : ℕ) → bit-length n < 64 → bit-length m < bit-length n → rank m < rank n
+by-bits : (m n : ℕ) → bit-length n < 64 → bit-length m < bit-length n → rank m < rank n
 unfolding rank zero-bits
 by-bits m n h k = omega arith
 
@@ -94,22 +93,17 @@ module _ (n : ℕ) (big : 1 < n) (odd : n % 2 ≡ 1) (fits : bit-length n < 64) 
   two-bits : 1 < bit-length n
   two-bits = bits-gt 1 n big
 
+  short : (m : ℕ) → m % 2 ≡ 1 → bit-length m < bit-length n → Operand n m
+  short m e h = record { odd = e; bits = omega arith; turn = shorter-turn m n h; falls = by-bits m n fits h }
+
   by-splus : (q : ℕ) → suc q < bit-length n → high (suc q) n % 2 ≡ 1 → Operands splus (suc q) n (high (suc q) n) (low (suc q) n)
   by-splus q h e =
       let lb : bit-length (high (suc q) n) ≤ bit-length n - suc q = bits-le (bit-length n - suc q) (high (suc q) n) (high-lt (suc q) n (omega arith)) in
       let rb : bit-length (low (suc q) n) ≤ suc q = bits-le (suc q) (low (suc q) n) (low-lt (suc q) n) in
       record {
         value = gives-of-sums splus (high (suc q) n) (suc q) (low (suc q) n) n (cut (suc q) n);
-        left-odd = e;
-        right-odd = low-odd q n odd;
-        left-least = omega (arith, e);
-        right-least = omega (arith, low-odd q n odd);
-        left-falls = by-bits (high (suc q) n) n fits (omega arith);
-        right-falls = by-bits (low (suc q) n) n fits (omega arith);
-        left-turn = shorter-turn (high (suc q) n) n (omega arith);
-        right-turn = shorter-turn (low (suc q) n) n (omega arith);
-        left-bits = omega arith;
-        right-bits = omega arith;
+        left = short (high (suc q) n) e (omega arith);
+        right = short (low (suc q) n) (low-odd q n odd) (omega arith);
       }
 
   -- a number that is odd and at most half of n's power of two is shorter than n
@@ -139,16 +133,8 @@ module _ (n : ℕ) (big : 1 < n) (odd : n % 2 ≡ 1) (fits : bit-length n < 64) 
       let rb : bit-length (2 ^ suc q - low (suc q) n) < bit-length n = shorter (2 ^ suc q - low (suc q) n) ro (right-half q (eq-or-lt-of-le h)) in
       record {
         value = gives-of-sums sminus (high (suc q) n + 1) (suc q) (2 ^ suc q - low (suc q) n) n (omega (arith, cut (suc q) n, add-mul (high (suc q) n) 1 (2 ^ suc q), one-mul (2 ^ suc q)));
-        left-odd = omega arith;
-        right-odd = ro;
-        left-least = omega arith;
-        right-least = omega arith;
-        left-falls = by-bits (high (suc q) n + 1) n fits lb;
-        right-falls = by-bits (2 ^ suc q - low (suc q) n) n fits rb;
-        left-turn = shorter-turn (high (suc q) n + 1) n lb;
-        right-turn = shorter-turn (2 ^ suc q - low (suc q) n) n rb;
-        left-bits = omega arith;
-        right-bits = omega arith;
+        left = short (high (suc q) n + 1) (omega arith) lb;
+        right = short (2 ^ suc q - low (suc q) n) ro rb;
       }
 
   by-minuss : (q : ℕ) → suc q < bit-length n → high (suc q) n % 2 ≡ 0 → Operands minuss (suc q) n (2 ^ bit-length n - 2 ^ suc q + low (suc q) n) (2 ^ (bit-length n - suc q) - 1 - high (suc q) n)
@@ -176,20 +162,17 @@ module _ (n : ℕ) (big : 1 < n) (odd : n % 2 ≡ 1) (fits : bit-length n < 64) 
       let rb : bit-length r ≤ bit-length n - p = bits-le (bit-length n - p) r (omega arith) in
       record {
         value = gives-of-sums minuss l p r n (omega (arith, cut p n));
-        left-odd = omega (arith, low-odd q n odd, dbl (A - 1) q);
-        right-odd = omega arith;
-        left-least = omega (arith, low-odd q n odd);
-        right-least = omega arith;
-        left-falls = by-zeros l n lb (omega arith) (omega arith);
-        right-falls = by-bits r n fits (omega arith);
-        left-turn = larger-turn l n lb (omega (arith, cut p n, mul-le-mul-right {m = suc hi} {n = A - 1} (2 ^ p) (omega arith), suc-mul hi (2 ^ p), pow-pos p));
-        right-turn = shorter-turn r n (omega arith);
-        left-bits = lb;
-        right-bits = omega arith;
+        left = record {
+          odd = omega (arith, low-odd q n odd, dbl (A - 1) q);
+          bits = lb;
+          turn = larger-turn l n lb (omega (arith, cut p n, mul-le-mul-right {m = suc hi} {n = A - 1} (2 ^ p) (omega arith), suc-mul hi (2 ^ p), pow-pos p));
+          falls = by-zeros l n lb (omega arith) (omega arith);
+        };
+        right = short r (omega arith) (omega arith);
       }
 
 -- every legal split's operands
-pub operands-at : (k : Kind) (p n : ℕ) → 1 < n → n % 2 ≡ 1 → bit-length n < 64 → legal-at k p n ≡ true → Operands k p n (left-at k p n) (right-at k p n)
+operands-at : (k : Kind) (p n : ℕ) → 1 < n → n % 2 ≡ 1 → bit-length n < 64 → legal-at k p n ≡ true → Operands k p n (left-at k p n) (right-at k p n)
 unfolding legal-at left-at right-at
 operands-at splus zero n big odd fits e = absurd (false≢true e)
 operands-at splus (suc q) n big odd fits e =

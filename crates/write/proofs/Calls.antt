@@ -20,7 +20,7 @@ use Rattle.product.specs.Bit.{Bit, variables}
 use Rattle.product.specs.Lines.{columns}
 use Rattle.product.specs.Product.{Product, product, lines-from, product-of}
 use Rattle.product.specs.Write.{if-accepted, y-length, room-answer, write-answer, Outcome, product-written, written}
-use Rattle.write.specs.Code.{bits-of}
+use Rattle.gates.specs.Code.{bits-of}
 use Rattle.write.specs.Terms.{table, variable-code}
 use Rattle.write.specs.Rooms.{Writable, CanPass}
 use Rattle.product.specs.declared.Written.{Written}

@@ -1,25 +1,27 @@
 -- A column of codes is document 01's column of their bits: the inputs, the sum, the carry, and all together.
 use Prim.Native.Nat.{ℕ, zero, suc, _+_, _*_, _%_, _<_, _≤_}
 use mathlib.Core.Path.{_≡_, refl, sym, ap, ap₂, subst, _∙_}
-use mathlib.Core.Bool.{Bool, true, false, not}
+use mathlib.Core.Bool.{Bool, true, false}
 use mathlib.Core.List.{List, [], _∷_, _++_, append-nil}
 use native.Mathlib.Omega.{arith}
 use native.Mathlib.Numerals.{add-one}
 use native.Mathlib.Decide.{decLt}
 use lib.ListN.{length, length-append}
 use borrow.Author.Tests.{lt-ltb, le-ltb}
-use Rattle.cnf.specs.Clause.{Literal, Clause, flips, negation, new}
+use Rattle.cnf.specs.Clause.{Literal, Clause, negation, new}
 use Rattle.product.specs.Bit.{Bit, fixed, unfixed}
 use Rattle.product.specs.Column.{fixed-sum, literals, odd, parity, sum, both, either, most, carry, carry-unless, Made, Column, column}
-use Rattle.write.specs.Code.{literal-of, bit-of, flipped-code}
-use Rattle.write.specs.Gate.{unfixed-literals, NoneFixed, with-unfixed, with-input, Sees, column-clauses, MatchesBit, MatchesColumn}
+use Rattle.gates.specs.Code.{literal-of, bit-of, flipped-code}
+use Rattle.gates.specs.Gate.{column-clauses}
+use Rattle.write.specs.Column.{unfixed-literals, NoneFixed, with-unfixed, with-input, Sees, MatchesBit, MatchesColumn}
 use Rattle.write.specs.declared.column.Unfixed.{Unfixed}
 use Rattle.write.specs.declared.column.Unfixed.the-variants.{Nil, One, Two, Three}
 use Rattle.write.specs.declared.column.Inputs.{Inputs}
-use Rattle.write.specs.declared.column.Gate.the-variants.{Empty, ParityOfTwo, ParityOfThree, Both, Most}
+use Rattle.gates.specs.declared.Gate.the-variants.{Empty, ParityOfTwo, ParityOfThree, Both, Most}
 use Rattle.write.specs.declared.column.MadeBit.{MadeBit}
 use Rattle.write.specs.declared.column.MadeColumn.{MadeColumn}
-use Rattle.write.proofs.Codes.{literal-negated, literal-new, new-flipped, bit-zero, bit-literal, bit-new, bit-flipped, bit-mod}
+use Rattle.gates.proofs.Codes.{literal-negated, literal-new, new-flipped, bit-zero, bit-literal, bit-new, bit-flipped, bit-mod}
+use Rattle.gates.proofs.GateWords.{flips-false, not-twice}
 
 -- ---- the inputs
 
@@ -97,10 +99,6 @@ ones-few i b = go (decLt b 2)
 
 -- ---- the sum
 
-flips-false : (b : Bool) → flips b false ≡ b
-flips-false true = refl
-flips-false false = refl
-
 -- the parity that a gate names by the code of its new variable
 parity-flipped : (ps : List Literal) (f z : ℕ) → parity ps (literal-of (flipped-code (2 * z) f) .negated) (literal-of (flipped-code (2 * z) f) .variable) ≡ parity ps (odd f) z
 parity-flipped ps f z = ap (λ (l : Literal). parity ps (l .negated) (l .variable)) (new-flipped z f) ∙ ap (λ (o : Bool). parity ps o z) (flips-false (odd f))
@@ -124,21 +122,6 @@ pub sum-of-three : (p q r f z : ℕ) → 0 < z
 unfolding sum
 sum-of-three p q r f z h =
     record { bit = bit-new z h; clauses = parity-flipped (literal-of p ∷ literal-of q ∷ literal-of r ∷ []) f z; next = add-one z; grows = omega arith; few = omega arith }
-
--- the clauses of a parity of two, by the literal of the new variable
-pub parity-of-two : (p q z : Literal) → parity (p ∷ q ∷ []) (z .negated) (z .variable)
-    ≡ (p ∷ q ∷ negation z ∷ []) ∷ (p ∷ negation q ∷ z ∷ []) ∷ (negation p ∷ q ∷ z ∷ []) ∷ (negation p ∷ negation q ∷ negation z ∷ []) ∷ []
-unfolding parity
-parity-of-two p q z = go (z .negated)
-  where
-    go : (o : Bool) → parity (p ∷ q ∷ []) o (z .variable)
-        ≡ (p ∷ q ∷ record { variable = z .variable; negated = not o } ∷ [])
-        ∷ (p ∷ negation q ∷ record { variable = z .variable; negated = o } ∷ [])
-        ∷ (negation p ∷ q ∷ record { variable = z .variable; negated = o } ∷ [])
-        ∷ (negation p ∷ negation q ∷ record { variable = z .variable; negated = not o } ∷ [])
-        ∷ []
-    go true = refl
-    go false = refl
 
 -- ---- the carry
 
@@ -174,10 +157,6 @@ carry-at-zero p = refl
 pub carry-at-one : (p : Literal) → carry 1 (p ∷ []) 0 .bit ≡ unfixed p
 unfolding carry
 carry-at-one p = refl
-
-not-twice : (b : Bool) → not (not b) ≡ b
-not-twice true = refl
-not-twice false = refl
 
 negation-twice : (l : Literal) → negation (negation l) ≡ l
 negation-twice l = ap (λ (s : Bool). record { variable = l .variable; negated = s }) (not-twice (l .negated))

@@ -13,6 +13,7 @@ use lib.ListN.{length, getD, set, take, drop, length-append, length-map, length-
 use lib.IntN.{ℤ}
 use lib.Seq.{sets, sets-eq, length-sets, ext-getD, getD-set-other, getD-append-add, getD-append-seam, getD-take, getD-drop, length-take-le}
 use Rattle.line.specs.declared.Line.{Line}
+use Rattle.line.proofs.Number.{lt-or-le}
 use Rattle.line.specs.Line.{Kind, splus, sminus, minuss, kind-of}
 use Rattle.recipe.specs.Check.{line-at}
 use Rattle.cnf.specs.Clause.{Clause}
@@ -21,14 +22,14 @@ use Rattle.cnf.proofs.Words.{words-append}
 use Rattle.product.specs.Bit.{Bit, fixed, flip}
 use Rattle.product.specs.Lines.{Sum, adder, shifted, fitted, line-sum, columns, Encoded, line-encoded, encoded}
 use Rattle.product.specs.Product.{lines-from}
-use Rattle.write.specs.Code.{bit-of, bits-of}
+use Rattle.gates.specs.Code.{bit-of, bits-of}
 use Rattle.write.specs.Terms.{operand-at}
 use Rattle.write.specs.Rooms.{SumIs, Holds, Writable, LinesAre}
 use Rattle.write.specs.declared.lines.Place.{Place}
 use Rattle.product.proofs.At.{fitted-at, shifted-low, shifted-high}
 use Rattle.product.proofs.Lengths.{length-fitted, length-line}
-use Rattle.write.proofs.Codes.{bit-at}
-use Rattle.write.proofs.Stores.{sets-append}
+use Rattle.gates.proofs.Codes.{bit-at}
+use Rattle.gates.proofs.Stores.{sets-append}
 
 -- ---- numbers
 
@@ -90,9 +91,6 @@ pub operand-bits : (scratch : List ℕ) (operands : List (List Bit)) → Holds s
     → bit-of (getD (operand-at scratch i) k 0) ≡ getD (getD operands i []) k (fixed false)
 unfolding operand-at
 operand-bits scratch operands h i q k r = ap (λ (x : ℕ). bit-of x) (getD-take 36 (drop (36 * i) scratch) k 0 r ∙ getD-drop (36 * i) scratch k 0) ∙ h .bits i k q r
-
-lt-or-le : (a b : ℕ) → (a < b) ⊎ (b ≤ a)
-lt-or-le a b = elim (decLt a b) [ yes h ↦ inl h | no h ↦ inr (omega arith) ]
 
 -- x alone, with zeros behind it
 x-holds : (scratch : List ℕ) (w : ℕ) → w ≤ 16 → ((j : ℕ) → w ≤ j → getD scratch j 0 ≡ 0) → Holds scratch (bits-of (take w scratch) ∷ [])

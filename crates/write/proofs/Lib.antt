@@ -1,7 +1,4 @@
-pub mod Codes
 pub mod CodeColumns
-pub mod Stores
-pub mod CodeWords
 pub mod Sums
 pub mod Tables
 pub mod CodeTerms

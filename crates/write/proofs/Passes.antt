@@ -2,23 +2,22 @@
 use Prim.Native.Nat.{ℕ, zero, suc, _+_, _-_, _*_, _<_, _≤_}
 use mathlib.Core.Path.{_≡_, refl, sym, ap, ap₂, subst, _∙_}
 use mathlib.Core.Bool.{Bool, true, false, cond}
-use mathlib.Core.List.{List, [], _∷_, _++_, map}
+use mathlib.Core.List.{List, [], _∷_, _++_, map, map-append}
 use native.Mathlib.Omega.{arith}
-use native.Mathlib.Nat.{add-zero, add-suc, suc-add, zero-add}
+use native.Mathlib.Nat.{add-zero, add-suc, suc-add}
 use lib.Dec.{ltb}
 use lib.IntN.{ℤ, pos}
 use lib.ListN.{length, getD, take, drop, length-map, replicate, getD-replicate, length-replicate, List·getD-map, List·getD-eq-default}
-use lib.Seq.{sets, sets-eq, ext-getD}
+use lib.Seq.{sets, ext-getD}
 use native.Mathlib.Decide.{decLt}
 use borrow.Author.Tests.{lt-ltb, le-ltb}
 use Rattle.cnf.specs.Clause.{new}
 use Rattle.cnf.specs.Words.{word, words}
-use Rattle.line.specs.Room.{over}
 use Rattle.line.specs.declared.Refusal.the-variants.{BitRoom, ClauseRoom}
 use Rattle.product.specs.Bit.{Bit, fixed, unfixed, variables, stored}
 use Rattle.product.specs.Lines.{shifted, columns, Encoded, encoded}
 use Rattle.product.specs.Product.{last, Product, product, lines-from, y-entries, clause-words}
-use Rattle.write.specs.Code.{literal-of, bit-of, bits-of}
+use Rattle.gates.specs.Code.{literal-of, bit-of, bits-of}
 use Rattle.write.specs.Terms.{table, shifted-code, operand-at, variable-code, y-entry}
 use Rattle.write.specs.Rooms.{LinesAre, PassIs}
 use Rattle.product.specs.Write.{Outcome, product-written}
@@ -26,7 +25,8 @@ use Rattle.write.specs.declared.lines.Place.{Place}
 use Rattle.product.specs.declared.Written.{Written}
 use Rattle.product.specs.declared.Written.the-variants.{Clauses, Refused}
 use Rattle.product.proofs.Lengths.{length-operands, length-lines}
-use Rattle.write.proofs.Codes.{bit-zero, bit-new, bits-append, stored-word}
+use Rattle.gates.proofs.Codes.{bit-zero, bit-new, stored-word}
+use Rattle.gates.proofs.Stores.{over-front}
 use Rattle.write.proofs.Tables.{length-table, table-at, take-sets}
 use Rattle.write.proofs.CodeTerms.{shifted-at}
 use Rattle.write.proofs.CodeLines.{sets-above, operand-bits}
@@ -53,7 +53,7 @@ pub variable-bits : (w : ℕ) → bits-of (table variable-code w) ≡ variables 
 unfolding table
 variable-bits zero = variables-none
 variable-bits (suc w) =
-    bits-append (table variable-code w) (2 * (w + 1) ∷ [])
+    map-append bit-of (table variable-code w) (2 * (w + 1) ∷ [])
     ∙ (ap₂ (λ (l : List Bit) (b : Bit). l ++ (b ∷ [])) (variable-bits w) (bit-new (w + 1) (omega arith) ∙ ap (λ (k : ℕ). unfixed (new k)) (omega arith))
     ∙ sym (variables-snoc 1 w))
 
@@ -150,10 +150,6 @@ module _ (recipe : List ℕ) (n : ℕ) (x : List ℕ) (next t : ℕ) where
 abbrev pub Ends : Outcome → Written → List ℤ → List ℤ → Type 0
 Ends o answer bits clauses = (answer ≡ o .answer) × ((bits ≡ o .bits) × (clauses ≡ o .clauses))
 
--- stores from the front, as a reader would say them: the words, and the rest of the room
-over-front : {A : Type 0} (l ws : List A) → length ws ≤ length l → sets l 0 ws ≡ over ws l
-over-front l ws h = sets-eq ws l 0 (omega arith) ∙ ap (λ k. ws ++ drop k l) (zero-add (length ws))
-
 -- an empty part that came back
 pub empty-front : {A : Type 0} (p l : List A) → length p ≡ 0 → p ++ l ≡ l
 empty-front [] l e = refl
@@ -166,10 +162,14 @@ module _ (p : Product) (size : ℕ) (bits clauses : List ℤ) where
   pub clauses-short : size ≤ length bits → length clauses < length (clause-words p) → Ends (product-written p size bits clauses) (Refused ClauseRoom) bits clauses
   clauses-short h k = rw (le-ltb (length bits) size h, lt-ltb (length clauses) (length (clause-words p)) k) (refl, (refl, refl))
 
-  pub both-fit : (r : Place) (bits′ clauses′ : List ℤ) → size ≡ length (p .y) → size ≤ length bits → length (clause-words p) ≤ length clauses
-      → PassIs p size r bits bits′ clauses clauses′
+  -- the rooms of the second pass are what the first gave back
+  pub both-fit : (r : Place) (bits₁ clauses₁ bits′ clauses′ : List ℤ) → bits₁ ≡ bits → clauses₁ ≡ clauses
+      → size ≡ length (p .y) → size ≤ length bits → length (clause-words p) ≤ length clauses
+      → PassIs p size r bits₁ bits′ clauses₁ clauses′
       → Ends (product-written p size bits clauses) (Clauses (r .words) (r .clauses) (r .next - 1) size) bits′ clauses′
-  both-fit r bits′ clauses′ es h k d =
+  both-fit r bits₁ clauses₁ bits′ clauses′ eb ec es h k i =
+      let d : PassIs p size r bits bits′ clauses clauses′ =
+      subst (λ (b : List ℤ). PassIs p size r b bits′ clauses clauses′) eb (subst (λ (l : List ℤ). PassIs p size r bits₁ bits′ l clauses′) ec i) in
       rw (le-ltb (length bits) size h, le-ltb (length clauses) (length (clause-words p)) k) (
         ap₂ (λ (a b : ℕ). Clauses a b (r .next - 1) size) (d .words-are) (d .clauses-are) ∙ ap (λ (a : ℕ). Clauses (length (clause-words p)) (length (p .clauses)) (a - 1) size) (d .next-is),
         (

@@ -2,7 +2,7 @@
 use Prim.Native.Nat.{ℕ, suc, _+_, _-_, _*_, _<_, _≤_}
 use mathlib.Core.Path.{_≡_, refl, sym, ap, ap₂, _∙_}
 use mathlib.Core.Bool.{Bool, false}
-use mathlib.Core.List.{List, [], _∷_, _++_, append-nil, append-assoc}
+use mathlib.Core.List.{List, [], _∷_, _++_, append-nil, append-assoc, map-append}
 use mathlib.Core.Logic.{⊎-elim}
 use native.Mathlib.Omega.{arith}
 use native.Mathlib.Nat.{eq-or-lt-of-le}
@@ -19,14 +19,18 @@ use Rattle.cnf.proofs.Words.{words-append}
 use Rattle.product.specs.Bit.{Bit, fixed}
 use Rattle.product.specs.Column.{column}
 use Rattle.product.specs.Lines.{Sum, none-left, adder}
-use Rattle.write.specs.Code.{bit-of, bits-of}
-use Rattle.write.specs.Gate.{column-clauses, MatchesColumn}
-use Rattle.write.specs.Rooms.{ColumnWritten, SumIs}
+use Rattle.gates.specs.Code.{bit-of, bits-of}
+use Rattle.gates.specs.Gate.{taken, after}
+use Rattle.gates.specs.declared.Taken.{Taken}
+use Rattle.write.specs.Column.{made-clauses, MatchesColumn}
+use Rattle.write.specs.Rooms.{SumIs}
 use Rattle.write.specs.declared.column.MadeColumn.{MadeColumn}
 use Rattle.write.specs.declared.lines.Place.{Place}
 use Rattle.product.proofs.At.{rest, rest-step, rest-end, last-column, not-last}
-use Rattle.write.proofs.Codes.{bits-append, bit-at}
-use Rattle.write.proofs.Stores.{sets-append, store-next, length-rest, length-put, lent}
+use Rattle.gates.proofs.Codes.{bit-at}
+use Rattle.gates.proofs.Stores.{sets-append, length-rest, length-put, lent}
+use Rattle.gates.proofs.GateWords.{column-few, fits}
+use Rattle.write.proofs.Tables.{store-last}
 
 -- after j columns: the whole sum is what was made, and then the rest from column j on
 pub record Upto (whole : Sum) (xs ys : List Bit) (from : Place) (sums₀ : List ℕ) (room₀ : List ℤ) (sums : List ℕ) (room : List ℤ) (carry free used n j : ℕ) : Type 0 where
@@ -86,10 +90,14 @@ module _ (left right : List ℕ) (first m : ℕ) (from : Place) (sums₀ : List 
       → Upto whole (bits-of left) (bits-of right) from sums₀ room₀ sums room carry free used n j
       → (c : MadeColumn) → MatchesColumn free c (column (bit-of (getD left j 0)) (bit-of (getD right j 0)) (bit-of carry) (eqb (j + 1) m) free)
       → (start : ℕ) → start ≤ length room → (used ≤ length room → start ≡ used)
-      → (part : List ℤ) (r k : ℕ) → ColumnWritten c r (midOf start (length room - start) room) part
-      → length part ≡ length (midOf start (length room - start) room) → k ≡ length (column-clauses c) → k ≤ 16
-      → Upto whole (bits-of left) (bits-of right) from sums₀ room₀ (set sums j (c .sum)) (putMid start (length room - start) room part) (c .carry) (c .next) (used + r) (n + k) (j + 1)
-  more sums room carry free used n j h u c g start le is part r k y same-part q few =
+      → (took : Taken) → took ≡ taken (made-clauses c)
+      → (part : List ℤ) → part ≡ after (made-clauses c) (midOf start (length room - start) room) → length part ≡ length (midOf start (length room - start) room)
+      → Upto whole (bits-of left) (bits-of right) from sums₀ room₀ (set sums j (c .sum)) (putMid start (length room - start) room part) (c .carry) (c .next) (used + took .words) (n + took .clauses) (j + 1)
+  unfolding taken
+  more sums room carry free used n j h u c g start le is took et part ep same-part =
+      let needs : took .words ≡ length (words (made-clauses c)) = ap (λ (t : Taken). t .words) et in
+      let counts : took .clauses ≡ length (made-clauses c) = ap (λ (t : Taken). t .clauses) et in
+      let few = column-few (c .parity) (c .majority) in
       let xs = bits-of left in
       let ys = bits-of right in
       let col = column (bit-of (getD left j 0)) (bit-of (getD right j 0)) (bit-of carry) (eqb (j + 1) m) free in
@@ -100,9 +108,9 @@ module _ (left right : List ℕ) (first m : ℕ) (from : Place) (sums₀ : List 
       let R = rest xs ys (j + 1) (bit-of (c .carry)) (c .next) in
       let same : rest xs ys (suc j) (col .carry-bit) (col .next) ≡ R =
       ap₂ (λ (x : Bit) (y : ℕ). rest xs ys (suc j) x y) (sym (g .carry)) (sym (g .next)) ∙ ap (λ (i : ℕ). rest xs ys i (bit-of (c .carry)) (c .next)) (sym (add-one j)) in
-      let ws : words (column-clauses c) ≡ words (col .clauses) = ap (λ (x : List Clause). words x) (g .clauses) in
+      let ws : words (made-clauses c) ≡ words (col .clauses) = ap (λ (x : List Clause). words x) (g .clauses) in
       let wa = words-append (u .made) (col .clauses) in
-      let wl : length (words (u .made ++ col .clauses)) ≡ length (words (u .made)) + length (words (column-clauses c)) =
+      let wl : length (words (u .made ++ col .clauses)) ≡ length (words (u .made)) + length (words (made-clauses c)) =
       ap (λ (x : List ℤ). length x) wa ∙ (length-append (words (u .made)) (words (col .clauses)) ∙ ap (λ (x : List ℤ). length (words (u .made)) + length x) (sym ws)) in
       record {
         codes = u .codes ++ (c .sum ∷ []);
@@ -111,20 +119,20 @@ module _ (left right : List ℕ) (first m : ℕ) (from : Place) (sums₀ : List 
             u .bits-are
             ∙ (ap (λ (b : List Bit). bits-of (u .codes) ++ b) (s .0 ∙ ap₂ (λ (t : Bit) (q : Sum). t ∷ q .bits) (sym (g .sum)) same)
             ∙ (sym (append-assoc (bits-of (u .codes)) (bit-of (c .sum) ∷ []) (R .bits))
-            ∙ ap (λ (b : List Bit). b ++ R .bits) (sym (bits-append (u .codes) (c .sum ∷ [])))));
+            ∙ ap (λ (b : List Bit). b ++ R .bits) (sym (map-append bit-of (u .codes) (c .sum ∷ [])))));
         clauses-are =
             u .clauses-are
             ∙ (ap (λ (b : List Clause). u .made ++ b) (s .1 ∙ ap (λ (q : Sum). col .clauses ++ q .clauses) same)
             ∙ sym (append-assoc (u .made) (col .clauses) (R .clauses)));
         next-is = u .next-is ∙ (s .2 ∙ ap (λ (q : Sum). q .next) same);
-        used-is = omega (arith, y .needs, u .used-is, wl);
-        n-is = omega (arith, q, ap (λ (x : List Clause). length x) (g .clauses), u .n-is, length-append (u .made) (col .clauses));
-        sums-are = ap (λ (x : List ℕ). set x j (c .sum)) (u .sums-are) ∙ store-next sums₀ (u .codes) (c .sum) j (u .sums-long);
+        used-is = omega (arith, needs, u .used-is, wl);
+        n-is = omega (arith, counts, ap (λ (x : List Clause). length x) (g .clauses), u .n-is, length-append (u .made) (col .clauses));
+        sums-are = ap (λ (x : List ℕ). set x j (c .sum)) (u .sums-are) ∙ store-last sums₀ (u .codes) (c .sum) j (u .sums-long);
         sums-long = omega (arith, u .sums-long, length-append (u .codes) (c .sum ∷ []));
         sums-same = length-set sums j (c .sum) ∙ u .sums-same;
         room-is = λ h.
             let at : start ≡ used = is (omega (arith, u .room-same)) in
-            lent room part (words (column-clauses c)) start le (y .fits (omega (arith, length-rest room start le, u .room-same)))
+            lent room part (words (made-clauses c)) start le (ep ∙ sym (fits (made-clauses c) (midOf start (length room - start) room) (omega (arith, needs, length-rest room start le, u .room-same))))
             ∙ (ap₂ (λ (i : ℕ) (x : List ℤ). sets room i x) at ws
             ∙ (ap₂ (λ (x : List ℤ) (i : ℕ). sets x i (words (col .clauses))) (u .room-is (omega (arith, u .room-same))) (u .used-is)
             ∙ (sets-append (words (u .made)) (words (col .clauses)) room₀ (from .words)
@@ -133,8 +141,8 @@ module _ (left right : List ℕ) (first m : ℕ) (from : Place) (sums₀ : List 
         free-pos = omega (arith, g .grows, u .free-pos);
         grows = omega (arith, g .grows, u .grows);
         free-small = omega (arith, g .few, u .free-small);
-        used-small = omega (arith, y .few, u .used-small);
-        n-small = omega (arith, u .n-small);
+        used-small = omega (arith, needs, few, u .used-small);
+        n-small = omega (arith, counts, few, u .n-small);
       }
 
   pub done : (sums : List ℕ) (room : List ℤ) (carry free used n j : ℕ) → j ≡ m

@@ -1,4 +1,3 @@
-pub mod Code
-pub mod Gate
+pub mod Column
 pub mod Rooms
 pub mod Terms

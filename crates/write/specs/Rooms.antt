@@ -1,4 +1,4 @@
--- What the functions that write columns and lines ask, and what they leave in their rooms.
+-- What the functions that write sums and lines ask, and what they leave in their rooms.
 use Prim.Native.Nat.{ℕ, _+_, _*_, _≤_, _<_}
 use mathlib.Core.Path.{_≡_}
 use mathlib.Core.Bool.{false}
@@ -12,16 +12,8 @@ use Rattle.cnf.specs.Words.{words}
 use Rattle.product.specs.Bit.{Bit, fixed, stored}
 use Rattle.product.specs.Lines.{Sum, columns, Encoded}
 use Rattle.product.specs.Product.{Product, product, lines-from}
-use Rattle.write.specs.Code.{bit-of, bits-of}
-use Rattle.write.specs.Gate.{column-clauses}
-use Rattle.write.specs.declared.column.MadeColumn.{MadeColumn}
+use Rattle.gates.specs.Code.{bit-of, bits-of}
 use Rattle.write.specs.declared.lines.Place.{Place}
-
--- the words that a column takes, and its words at the front of the rest, where they fit
-pub record ColumnWritten (c : MadeColumn) (r : ℕ) (rest rest′ : List ℤ) : Type 0 where
-  pub needs : r ≡ length (words (column-clauses c))
-  pub few : r ≤ 80
-  pub fits : r ≤ length rest → rest′ ≡ sets rest 0 (words (column-clauses c))
 
 -- ---- a sum of m columns, from a place on
 

@@ -6,7 +6,7 @@ use lib.Dec.{eqb, ltb}
 use lib.IntN.{ℤ, pos}
 use lib.ListN.{getD, take, drop}
 use Rattle.cnf.specs.Words.{word}
-use Rattle.write.specs.Code.{literal-of, flipped-code}
+use Rattle.gates.specs.Code.{literal-of, flipped-code}
 
 -- f 0 to f (m - 1)
 unfoldable pub table : {A : Type 0} → (ℕ → A) → ℕ → List A

@@ -5,9 +5,10 @@ ghost use mathlib.Core.List.{[], _∷_};
 ghost use Prim.Native.Nat.{_+_, _≤_, _<_};
 ghost use lib.ListN.{length};
 ghost use Rattle.product.specs.Column.{sum, carry, column};
-ghost use Rattle.write.specs.Code.{literal-of, bit-of};
-ghost use Rattle.write.specs.Gate.{unfixed-literals, NoneFixed, with-unfixed, with-input, Sees, MatchesBit, MatchesColumn};
-use crate::code::flipped;
+ghost use Rattle.gates.specs.Code.{literal-of, bit-of};
+ghost use Rattle.write.specs.Column.{unfixed-literals, NoneFixed, with-unfixed, with-input, Sees, MatchesBit, MatchesColumn};
+use gates::Gate;
+use gates::flipped;
 
 // ---- a column's inputs
 
@@ -67,15 +68,6 @@ fn inputs_of(left: u32, right: u32, carry: u32) -> Inputs
 }
 
 // ---- a column
-
-// The clauses that tie a new variable to its inputs. The last code is the new variable's, or that of its negation.
-pub enum Gate {
-    Empty,
-    ParityOfTwo(u32, u32, u32),
-    ParityOfThree(u32, u32, u32, u32),
-    Both(u32, u32, u32),
-    Most(u32, u32, u32, u32),
-}
 
 // A bit, its gate, and the next free variable.
 pub struct MadeBit {

@@ -1,7 +1,5 @@
 // Writing: the clauses of an accepted recipe, word by word.
 
-mod clauses;
-mod code;
 mod column;
 mod lines;
 
@@ -9,16 +7,16 @@ ghost use mathlib.Core.Path.{_≡_};
 ghost use Prim.Native.Nat.{_+_, _≤_, _<_};
 ghost use lib.ListN.{length};
 ghost use lib.Seq.{sets};
-ghost use Rattle.write.specs.Code.{bits-of};
+ghost use Rattle.gates.specs.Code.{bits-of};
 ghost use Rattle.product.specs.Product.{product, lines-from};
 ghost use Rattle.product.specs.Write.{product-written, written};
 ghost use Rattle.write.specs.Terms.{table, variable-code, y-entry};
 ghost use Rattle.write.specs.Rooms.{CanPass, PassIs};
-use crate::code::word;
 use crate::lines::MOST_COLUMNS;
 use crate::lines::Place;
 use crate::lines::largest;
 use crate::lines::write_lines;
+use gates::word;
 use line::Line;
 use line::Refusal;
 use product::Written;

@@ -2,19 +2,18 @@
 
 ghost use mathlib.Core.Path.{_≡_};
 ghost use mathlib.Core.List.{[], _∷_};
-ghost use Prim.Native.Nat.{_-_, _*_, _^_, _≤_, _<_};
+ghost use Prim.Native.Nat.{_+_, _-_, _*_, _^_, _≤_, _<_};
 ghost use lib.ListN.{length, take};
 ghost use lib.Seq.{sets};
 ghost use Rattle.line.specs.Line.{kind-of};
-ghost use Rattle.write.specs.Code.{bit-of, bits-of};
+ghost use Rattle.gates.specs.Code.{bit-of, bits-of};
 ghost use Rattle.product.specs.Lines.{adder, line-sum, columns, encoded};
 ghost use Rattle.product.specs.Product.{lines-from};
 ghost use Rattle.write.specs.Terms.{table, term-code, shift-of-left, shift-of-right, taken-off, operand-at};
 ghost use Rattle.write.specs.Rooms.{CanSum, SumIs, CanLine, CanLines, LinesAre};
-use crate::clauses::column_clauses;
-use crate::clauses::write_column;
-use crate::code::flipped;
 use crate::column::column;
+use gates::flipped;
+use gates::write_column;
 use line::Line;
 
 // ---- a sum of two terms
@@ -56,8 +55,11 @@ fn write_sum(
         let c = column(left[j], right[j], carry, j + 1 == m, free);
         sums[j] = c.sum;
         let start = least(used, room.len());
-        used = used + write_column(c, &mut room[start..]);
-        made = made + column_clauses(c);
+        let parity = c.parity;
+        let majority = c.majority;
+        let took = write_column(parity, majority, &mut room[start..]);
+        used = used + took.words;
+        made = made + took.clauses;
         carry = c.carry;
         free = c.next;
         j = j + 1;
@@ -85,11 +87,13 @@ fn term_bit(bits: &[u32], s: usize, f: u32, j: usize) -> u32
     }
 }
 
-// The first m columns of an operand that is shifted by s, negated if f is odd.
-fn term(bits: &[u32], s: usize, f: u32, m: usize, out: &mut [u32])
-    requires { ⌜ (m ≤ length (now bits)) × (m ≤ length (now out)) ⌝ }
-    ensures { λ _. ⌜ now (out .exit) ≡ sets (now (out .entry)) 0 (table (term-code (now (bits .entry)) s f) m) ⌝ }
+// The first m columns of operand i of a scratch room, shifted by s, negated if f is odd.
+fn term(scratch: &[u32], i: usize, s: usize, f: u32, m: usize, out: &mut [u32])
+    requires { ⌜ (36 * i + 36 ≤ length (now scratch)) × (m ≤ 36) × (m ≤ length (now out)) ⌝ }
+    ensures { λ _. ⌜ now (out .exit) ≡ sets (now (out .entry)) 0 (table (term-code (operand-at (now (scratch .entry)) i) s f) m) ⌝ }
 {
+    let a = MOST_COLUMNS * i;
+    let bits = &scratch[a..a + MOST_COLUMNS];
     let mut j = 0;
     while j < m {
         out[j] = term_bit(bits, s, f, j);
@@ -132,23 +136,16 @@ fn write_line(
     let f = taken_off(l.kind);
     let mut left = [0u32; MOST_COLUMNS];
     let mut right = [0u32; MOST_COLUMNS];
-    let a = MOST_COLUMNS * l.left;
-    let b = MOST_COLUMNS * l.right;
-    let o = MOST_COLUMNS * at;
+    term(scratch, l.left, shift_of_left(l.kind, s), 0, m, &mut left);
     term(
-        &scratch[a..a + MOST_COLUMNS],
-        shift_of_left(l.kind, s),
-        0,
-        m,
-        &mut left,
-    );
-    term(
-        &scratch[b..b + MOST_COLUMNS],
+        scratch,
+        l.right,
         shift_of_right(l.kind, s),
         f,
         m,
         &mut right,
     );
+    let o = MOST_COLUMNS * at;
     write_sum(&left[..m], &right[..m], f, m, from, &mut scratch[o..], room)
 }
 
@@ -188,7 +185,7 @@ pub(crate) fn write_lines(
     while i < n {
         let a = i * Line::BYTES;
         let e = a + Line::BYTES;
-        let l = line::read_line(&recipe[a..e]);
+        let l = Line::read(&recipe[a..e]);
         let m = columns_of(w, l.coefficient);
         let from = Place {
             next: free,

@@ -8,12 +8,6 @@ ghost use mathlib.Core.Path.{_≡_};
 ghost use Prim.Native.Nat.{_<_, _≤_, _^_};
 ghost use lib.ListN.{length};
 
-fn bit_room() -> [i32; 32]
-    ensures { λ r. ⌜ 32 ≡ length r ⌝ }
-{
-    [0; 32]
-}
-
 fn clause_room() -> [i32; 16384]
     ensures { λ r. ⌜ 16384 ≡ length r ⌝ }
 {
@@ -98,7 +92,7 @@ fn main() {
         return;
     }
     let times = wide(input[0]) * 256 + wide(input[1]);
-    let mut bits = bit_room();
+    let mut bits = [0; 32];
     let mut clauses = clause_room();
     io::print_decimal(
         STDOUT_FILENO,

@@ -9,18 +9,6 @@ ghost use mathlib.Core.Path.{_≡_};
 ghost use Prim.Native.Nat.{_+_, _<_, _≤_, _^_};
 ghost use lib.ListN.{length};
 
-fn byte_room() -> [u8; 255]
-    ensures { λ r. ⌜ 255 ≡ length r ⌝ }
-{
-    [0; 255]
-}
-
-fn bit_room() -> [i32; 255]
-    ensures { λ r. ⌜ 255 ≡ length r ⌝ }
-{
-    [0; 255]
-}
-
 fn clause_room() -> [i32; 65535]
     ensures { λ r. ⌜ 65535 ≡ length r ⌝ }
 {
@@ -155,8 +143,8 @@ fn run(recipe: &mut [u8], bits: &mut [i32], clauses: &mut [i32])
 }
 
 fn main() {
-    let mut recipe = byte_room();
-    let mut bits = bit_room();
+    let mut recipe = [0; 255];
+    let mut bits = [0; 255];
     let mut clauses = clause_room();
     run(&mut recipe, &mut bits, &mut clauses);
 }

@@ -5,14 +5,8 @@ use Rattle.recipe.specs.Check.{checked-number}
 use Rattle.ladlebean.proofs.ladlebean_check.Statement.{statement}
 use Rattle.ladlebean.proofs.ladlebean_check.Tie as tie
 
-check-requires : tie.Need-check-requires
-check-requires c κs = search needs
-
-number-requires : tie.Need-number-requires
-number-requires c κs = search needs
-
 returns : tie.Need-returns
 returns c = c .number .ensures .0 ∙ ap checked-number (c .before .check .ensures)
 
 pub ladlebean-check-spec : {M : Type 1} → statement M
-ladlebean-check-spec = tie.close (tie.spec check-requires number-requires returns)
+ladlebean-check-spec = tie.close (tie.spec (λ c κs. search needs) (λ c κs. search needs) returns)

@@ -10,27 +10,6 @@ returns c =
     let a = c .before .before .before .before .args in
     planning-short (a .c) (now (a .work)) (now (a .recipe)) (now (a .answers)) (c .if1 .taken)
 
-plan-requires : tie.Need-plan-requires
-plan-requires c κs = search needs
-
-lines-requires : tie.Need-lines-requires
-lines-requires c κs = search needs
-
-slice-write-answers : tie.Need-slice-write-answers
-slice-write-answers c = search needs
-
-number-requires : tie.Need-number-requires
-number-requires c κs = search needs
-
-same-length : tie.Need-same-length
-same-length c = search needs
-
-same-length-2 : tie.Need-same-length-2
-same-length-2 c = search needs
-
-same-length-3 : tie.Need-same-length-3
-same-length-3 c = search needs
-
 returns-2 : tie.Need-returns-2
 returns-2 c =
     let a = c .before .before .before .before .before .before .before .before .before .before .before .before .before .args in
@@ -43,11 +22,11 @@ ladlebean-plan-spec =
     tie.close
     (tie.spec
     returns
-    plan-requires
-    lines-requires
-    slice-write-answers
-    number-requires
-    same-length
-    same-length-2
-    same-length-3
+    (λ c κs. search needs)
+    (λ c κs. search needs)
+    (λ c. search needs)
+    (λ c κs. search needs)
+    (λ c. search needs)
+    (λ c. search needs)
+    (λ c. search needs)
     returns-2)

@@ -7,23 +7,11 @@ use borrow.Author.Needs.{needs}
 use Rattle.ladlebean.proofs.tell.Statement.{statement}
 use Rattle.ladlebean.proofs.tell.Tie as tie
 
-slice-write-answers : tie.Need-slice-write-answers
-slice-write-answers c = search needs
-
 slice-write-answers-2 : tie.Need-slice-write-answers-2
 slice-write-answers-2 c = simp length-set (omega arith)
 
-cast-answers : tie.Need-cast-answers
-cast-answers c = search needs
-
 slice-write-answers-3 : tie.Need-slice-write-answers-3
 slice-write-answers-3 c = simp length-set (omega arith)
-
-slice-write-answers-4 : tie.Need-slice-write-answers-4
-slice-write-answers-4 c = search needs
-
-same-length : tie.Need-same-length
-same-length c = search needs
 
 returns : tie.Need-returns
 returns c =
@@ -34,10 +22,10 @@ pub tell-spec : {M : Type 1} → statement M
 tell-spec =
     tie.close
     (tie.spec
-    slice-write-answers
+    (λ c. search needs)
     slice-write-answers-2
-    cast-answers
+    (λ c. search needs)
     slice-write-answers-3
-    slice-write-answers-4
-    same-length
+    (λ c. search needs)
+    (λ c. search needs)
     returns)

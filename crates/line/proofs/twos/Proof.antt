@@ -1,7 +1,9 @@
 -- `line::twos` meets its contract: trailing zeros are halvings. Assumes nothing.
 use mathlib.Core.Path.{_≡_, ap, sym}
 use Prim.Native.Nat.{_<_}
+use native.Mathlib.Nat.{lt-of-le-of-lt}
 use native.Mathlib.Omega.{arith}
+use lib.Dec.{lit<}
 use lib.Count.{trailing-le}
 use Rattle.line.specs.Number.{twos, halvings-by}
 use Rattle.line.proofs.Number.{twos-lt, twos-trailing}
@@ -15,7 +17,7 @@ returns c =
     (e, omega arith)
 
 cast-result : tie.Need-cast-result
-cast-result c = omega (arith, trailing-le 64 (c .before .args .c))
+cast-result c = record { fits = lt-of-le-of-lt (trailing-le 64 _) (lit< tt) }
 
 returns-2 : tie.Need-returns-2
 returns-2 c =

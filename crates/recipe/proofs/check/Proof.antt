@@ -12,7 +12,7 @@ returns c = simp (eq-eqb _ _ (c .if1 .taken))
 
 returns-2 : tie.Need-returns-2
 unfolding checked
-returns-2 c = simp (ne-eqb _ _ (c .before .if1 .left), lt-ltb _ _ (c .if2 .taken))
+returns-2 c = simp (ne-eqb _ _ (c .before .if1 .left), lt-ltb 65535 _ (c .if2 .taken))
 
 odd-part-requires : tie.Need-odd-part-requires
 odd-part-requires c κs = search needs

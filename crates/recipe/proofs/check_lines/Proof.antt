@@ -3,6 +3,7 @@
 use mathlib.Core.Path.{_≡_, refl, ap, _∙_, sym}
 use Prim.Native.Nat.{_-_}
 use native.Mathlib.Omega.{arith}
+use lib.ListN.{length}
 use borrow.Author.Needs.{needs}
 use borrow.Author.Tests.{eq-eqb, ne-eqb, lt-ltb}
 use Rattle.line.specs.declared.Line.{Line}
@@ -26,7 +27,7 @@ mul-if2 c = omega arith
 
 returns-2 : tie.Need-returns-2 Inv-loop μ-loop
 unfolding recipe-checked
-returns-2 c = simp (eq-eqb _ _ (c .before .if1 .left), lt-ltb _ _ (c .if2 .taken))
+returns-2 c = simp (eq-eqb _ _ (c .before .if1 .left), lt-ltb 160 (length (c .before .before .before .args .recipe .now)) (c .if2 .taken))
 
 array-write-seen : tie.Need-array-write-seen Inv-loop μ-loop
 array-write-seen c = omega arith
@@ -46,21 +47,21 @@ mul-a c = omega arith
 add-e : tie.Need-add-e Inv-loop μ-loop
 add-e c = omega arith
 
-sub-read-line : tie.Need-sub-read-line Inv-loop μ-loop
-sub-read-line c = omega arith
+sub-read : tie.Need-sub-read Inv-loop μ-loop
+sub-read c = omega arith
 
-part-read-line-start : tie.Need-part-read-line-start Inv-loop μ-loop
-part-read-line-start c = omega arith
+part-read-start : tie.Need-part-read-start Inv-loop μ-loop
+part-read-start c = omega arith
 
-part-read-line-end : tie.Need-part-read-line-end Inv-loop μ-loop
-part-read-line-end c = omega arith
+part-read-end : tie.Need-part-read-end Inv-loop μ-loop
+part-read-end c = omega arith
 
-read-line-requires : tie.Need-read-line-requires Inv-loop μ-loop
-read-line-requires c κs = search needs
+read-requires : tie.Need-read-requires Inv-loop μ-loop
+read-requires c κs = search needs
 
 judge-requires : tie.Need-judge-requires Inv-loop μ-loop
 judge-requires c κs =
-    let e = c .before .read-line .ensures in
+    let e = c .before .read .ensures in
     let l = c .before .before .before .before .loop in
     let s = c .before .before .before .before .before .before .before .before .args .recipe .now in
     (omega arith, ((omega (arith, ap (λ (x : Line). x .shift) e), omega (arith, ap (λ (x : Line). x .coefficient) e)), λ j h. omega (arith, l .inv .operands j h, coefficient-lt s j)))
@@ -89,14 +90,14 @@ verdict : (c : tie.After-judge Inv-loop μ-loop)
 verdict c =
     let l = c .before .before .before .before .before .loop in
     let s = c .before .before .before .before .before .before .before .before .before .args .recipe .now in
-    c .judge .ensures ∙ judged-seen s (l .seen) _ (l .i) (c .before .before .read-line .ensures ∙ part-line s (l .i)) (l .inv .operands)
+    judged-seen s (l .seen) _ (l .i) (c .judge .result) (c .judge .ensures) (c .before .before .read .ensures ∙ part-line s (l .i)) (l .inv .operands)
 
 loop-again : tie.Need-loop-again Inv-loop μ-loop
 loop-again c =
     let j = c .before .before in
     let l = j .before .before .before .before .before .loop in
     let s = j .before .before .before .before .before .before .before .before .before .args .recipe .now in
-    let e = j .before .before .read-line .ensures ∙ part-line s (l .i) in
+    let e = j .before .before .read .ensures ∙ part-line s (l .i) in
     walking-on _ s _ (l .seen) (l .i) _ (l .inv) (omega arith) (omega arith) (sym (verdict j) ∙ c .enum-told .given .1) (ap (λ (x : Line). x .coefficient) e)
 
 returns-3 : tie.Need-returns-3 Inv-loop μ-loop
@@ -130,10 +131,10 @@ check-lines-spec =
     array-read-if4
     mul-a
     add-e
-    sub-read-line
-    part-read-line-start
-    part-read-line-end
-    read-line-requires
+    sub-read
+    part-read-start
+    part-read-end
+    read-requires
     judge-requires
     enum-told
     enum-known-x

@@ -6,7 +6,7 @@ use native.Mathlib.Omega.{arith}
 use lib.ListN.{length, getD, take}
 use Rattle.product.specs.Lines.{columns, encoded}
 use Rattle.product.specs.Product.{lines-from}
-use Rattle.write.specs.Code.{bits-of}
+use Rattle.gates.specs.Code.{bits-of}
 use Rattle.write.specs.Rooms.{LinesAre}
 use Rattle.write.proofs.Passes.{x-in-front, zeros-behind, pass-is}
 use borrow.Author.Needs.{needs}

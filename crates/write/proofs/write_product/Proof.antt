@@ -6,7 +6,7 @@ use native.Mathlib.Omega.{arith}
 use lib.IntN.{ℤ}
 use lib.ListN.{length}
 use Rattle.product.specs.Product.{product, lines-from, clause-words}
-use Rattle.write.specs.Code.{bits-of}
+use Rattle.gates.specs.Code.{bits-of}
 use Rattle.write.proofs.Passes.{empty-front, bits-short, clauses-short, both-fit}
 use borrow.Author.Needs.{needs}
 use Rattle.write.proofs.write_product.Statement.{statement}
@@ -36,9 +36,8 @@ returns-3 c =
     let p = product (a .t) (lines-from (a .recipe .now) 0 (a .n)) (bits-of (a .x .now)) (a .next) in
     let eb = empty-front (f .last .1 .1 .1 .1 .1 .1 .0) (a .bits .now) (f .kept .1 .1 .1 .1 .1 .1 .0) in
     let ec = empty-front (f .last .1 .1 .1 .1 .1 .1 .1 .0) (a .clauses .now) (f .kept .1 .1 .1 .1 .1 .1 .1 .0) in
-    let i = rw (eb, ec) at (g .ensures) in
     let h : length (clause-words p) ≤ length (a .clauses .now) = omega (arith, f .ensures .words-are, ap (λ (l : List ℤ). length l) ec) in
-    both-fit p (a .size) (a .bits .now) (a .clauses .now) (g .result) _ _ (c .before .before .before .before .before .before .before .before .before .before .before .before .before .before .before .before .pre .bits) (c .before .before .before .before .before .before .before .before .before .before .before .before .before .if1 .left) h i
+    both-fit p (a .size) (a .bits .now) (a .clauses .now) (g .result) _ _ _ _ eb ec (c .before .before .before .before .before .before .before .before .before .before .before .before .before .before .before .before .pre .bits) (c .before .before .before .before .before .before .before .before .before .before .before .before .before .if1 .left) h (g .ensures)
 
 pub write-product-spec : {M : Type 1} → statement M
 write-product-spec =

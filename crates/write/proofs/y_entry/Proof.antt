@@ -1,5 +1,5 @@
 -- `product::y_entry`: a zero below t, then a bit's word.
-use mathlib.Core.Path.{_∙_}
+use mathlib.Core.Path.{refl, _∙_}
 use mir.Syntax.{w32}
 use mir.ValLaws.{toZ-ofZ}
 use borrow.Author.Tests.{lt-ltb, le-ltb}
@@ -10,7 +10,7 @@ use Rattle.write.proofs.y_entry.Tie as tie
 
 returns : tie.Need-returns
 unfolding y-entry
-returns c = simp (lt-ltb _ _ (c .if1 .taken))
+returns c = simp (lt-ltb _ _ (c .if1 .taken)) refl
 
 returns-2 : tie.Need-returns-2
 unfolding y-entry

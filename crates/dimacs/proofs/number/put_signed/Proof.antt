@@ -1,16 +1,16 @@
 -- `dimacs::number::put_signed`: a minus sign or none, then the magnitude. Assumes nothing.
-use borrow.Author.Needs.{needs}
 use mathlib.Core.Path.{ap, _∙_}
 use mathlib.Core.Bool.{true, false}
+use mathlib.Core.List.{[], _∷_}
 use Prim.Native.Nat.{ℕ}
 use native.Mathlib.Omega.{arith}
 use lib.IntN.{natAbs}
 use mir.Syntax.{w32}
 use mir.ValLaws.{toZ-ofZ}
 use lib.ListN.{length}
-use Rattle.dimacs.specs.Decimal.{decimal}
+use Rattle.wording.specs.Decimal.{decimal}
 use Rattle.dimacs.proofs.Place.{put-two}
-use Rattle.dimacs.proofs.Sign.{sign, signed-minus, signed-plain}
+use Rattle.wording.proofs.Sign.{sign, signed-minus, signed-plain}
 use Rattle.dimacs.proofs.number.put_signed.Statement.{statement}
 use Rattle.dimacs.proofs.number.put_signed.Tie as tie
 
@@ -28,7 +28,7 @@ returns c = let q = c .before .before in
     let p = q .before .before .before .before .before in
     let s = p .before .before .before .before in
     let e = signed-minus (s .args .z) (sign (s .args .z) true (s .fits .z) (p .before .before .if1 .taken)) in
-    rw e (put-two (p .put-byte .ensures) (rw (q .before .magnitude .ensures ∙ ap natAbs (toZ-ofZ w32 (s .args .z) (s .fits .z))) at (q .put-decimal .ensures)))
+    rw e (put-two {b = 45 ∷ []} (p .put-byte .ensures) (rw (q .before .magnitude .ensures ∙ ap natAbs (toZ-ofZ w32 (s .args .z) (s .fits .z))) at (q .put-decimal .ensures)))
 
 put-decimal-requires-2 : tie.Need-put-decimal-requires-2
 put-decimal-requires-2 c κs = let s = c .before .before .before .before in
@@ -44,11 +44,11 @@ put-signed-spec =
     tie.close
     (tie.spec
     put-byte-requires
-    (λ c κs. search needs)
+    (λ c κs. omega arith)
     put-decimal-requires
-    (λ c. search needs)
+    (λ c. omega arith)
     returns
-    (λ c κs. search needs)
+    (λ c κs. omega arith)
     put-decimal-requires-2
-    (λ c. search needs)
+    (λ c. omega arith)
     returns-2)

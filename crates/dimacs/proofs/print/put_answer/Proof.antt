@@ -1,7 +1,7 @@
 -- `dimacs::print::put_answer`: the request's case. Assumes nothing.
-use borrow.Author.Needs.{needs}
+use native.Mathlib.Omega.{arith}
 use mathlib.Core.Path.{sym, _∙_}
-use Rattle.dimacs.specs.declared.Request.the-variants.{Malformed}
+use Rattle.wording.specs.declared.Request.the-variants.{Malformed}
 use Rattle.dimacs.proofs.Planning.{printed-as}
 use Rattle.dimacs.proofs.print.put_answer.Statement.{statement}
 use Rattle.dimacs.proofs.print.put_answer.Tie as tie
@@ -22,12 +22,12 @@ pub put-answer-spec : {M : Type 1} → statement M
 put-answer-spec =
     tie.close
     (tie.spec
-    (λ c κs. search needs)
-    (λ c. search needs)
-    (λ c. search needs)
-    (λ c κs. search needs)
-    (λ c. search needs)
+    (λ c κs. omega arith)
+    (λ c. omega arith)
+    (λ c. omega arith)
+    (λ c κs. omega arith)
+    (λ c. omega arith)
     returns
-    (λ c κs. search needs)
-    (λ c. search needs)
+    (λ c κs. omega arith)
+    (λ c. omega arith)
     returns-2)

@@ -1,5 +1,4 @@
 -- `dimacs::print::put_planned`: the number of lines cuts the room, by the answer's case. Assumes nothing.
-use borrow.Author.Needs.{needs}
 use mathlib.Core.Path.{ap, sym}
 use Prim.Native.Nat.{_*_}
 use native.Mathlib.Omega.{arith}
@@ -38,13 +37,13 @@ pub put-planned-spec : {M : Type 1} → statement M
 put-planned-spec =
     tie.close
     (tie.spec
-    (λ c. search needs)
-    (λ c κs. search needs)
-    (λ c. search needs)
+    (λ c. omega arith)
+    (λ c κs. omega arith)
+    (λ c. omega arith)
     mul-put-recipe
     slice-aggregate-put-recipe
-    (λ c κs. search needs)
-    (λ c. search needs)
+    (λ c κs. omega arith)
+    (λ c. omega arith)
     returns
-    (λ c. search needs)
+    (λ c. omega arith)
     returns-2)

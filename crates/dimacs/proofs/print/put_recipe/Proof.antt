@@ -1,43 +1,41 @@
 -- `dimacs::print::put_recipe`: the rooms' lengths are known, and what stands in them is as writing leaves it. Assumes nothing.
-use borrow.Author.Needs.{needs}
-use mathlib.Core.Path.{sym}
+use mathlib.Core.Path.{refl, sym}
 use native.Mathlib.Omega.{arith}
+use lib.IntN.{pos}
+use lib.ListN.{replicate}
 use Rattle.dimacs.proofs.Shown.{written-fits, written-shown}
 use Rattle.dimacs.proofs.print.put_recipe.Statement.{statement}
 use Rattle.dimacs.proofs.print.put_recipe.Tie as tie
 
 put-written-requires : tie.Need-put-written-requires
 put-written-requires c κs = let w = c .before .before .before .before .before in
-    let kw = w .before .before .before in
-    let kb = kw .before in
-    let a = kb .before .before .before .args in
+    let k = w .before .before .before in
+    let a = k .before .before .before .args in
     let hb = w .write .kept .1 .1 .1 .0 in
     let hw = w .write .kept .1 .1 .1 .1 .0 in (
-      written-fits (a .c) (a .w) (a .recipe .now) (kb .bit-room .result) (kw .word-room .result) (w .write .result) (w .write .last .1 .1 .1 .0) (w .write .last .1 .1 .1 .1 .0)
+      written-fits (a .c) (a .w) (a .recipe .now) (replicate 32 (pos 0)) (k .word-room .result) (w .write .result) (w .write .last .1 .1 .1 .0) (w .write .last .1 .1 .1 .1 .0)
           (record { answered = w .write .ensures .0; bits-left = w .write .ensures .1 .0; clauses-left = w .write .ensures .1 .1 }) hb hw,
-      omega (arith, hb, hw, kb .bit-room .ensures, kw .word-room .ensures),
+      omega (arith, hb, hw, k .word-room .ensures),
     )
 
 returns : tie.Need-returns
 returns c = let p = c .before .before in
     let w = p .before .before .before .before .before .before in
-    let kw = w .before .before .before in
-    let kb = kw .before in
-    let a = kb .before .before .before .args in
-    rw (sym (written-shown (a .c) (a .w) (a .recipe .now) (kb .bit-room .result) (kw .word-room .result) (w .write .result) (w .write .last .1 .1 .1 .0) (w .write .last .1 .1 .1 .1 .0)
-    (record { answered = w .write .ensures .0; bits-left = w .write .ensures .1 .0; clauses-left = w .write .ensures .1 .1 }) (sym (kb .bit-room .ensures)) (sym (kw .word-room .ensures)))) (p .put-written .ensures)
+    let k = w .before .before .before in
+    let a = k .before .before .before .args in
+    rw (sym (written-shown (a .c) (a .w) (a .recipe .now) (replicate 32 (pos 0)) (k .word-room .result) (w .write .result) (w .write .last .1 .1 .1 .0) (w .write .last .1 .1 .1 .1 .0)
+    (record { answered = w .write .ensures .0; bits-left = w .write .ensures .1 .0; clauses-left = w .write .ensures .1 .1 }) refl (sym (k .word-room .ensures)))) (p .put-written .ensures)
 
 pub put-recipe-spec : {M : Type 1} → statement M
 put-recipe-spec =
     tie.close
     (tie.spec
-    (λ c κs. search needs)
-    (λ c κs. search needs)
-    (λ c. search needs)
-    (λ c. search needs)
-    (λ c κs. search needs)
-    (λ c. search needs)
-    (λ c. search needs)
+    (λ c κs. omega arith)
+    (λ c. omega arith)
+    (λ c. omega arith)
+    (λ c κs. omega arith)
+    (λ c. omega arith)
+    (λ c. omega arith)
     put-written-requires
-    (λ c. search needs)
+    (λ c. omega arith)
     returns)

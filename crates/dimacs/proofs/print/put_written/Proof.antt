@@ -1,5 +1,4 @@
 -- `dimacs::print::put_written`: the counts cut the rooms, by the answer's case. Assumes nothing.
-use borrow.Author.Needs.{needs}
 use mathlib.Core.Path.{ap, sym}
 use native.Mathlib.Omega.{arith}
 use lib.ListN.{length, length-take}
@@ -40,14 +39,14 @@ pub put-written-spec : {M : Type 1} → statement M
 put-written-spec =
     tie.close
     (tie.spec
-    (λ c. search needs)
-    (λ c κs. search needs)
-    (λ c. search needs)
+    (λ c. omega arith)
+    (λ c κs. omega arith)
+    (λ c. omega arith)
     slice-aggregate-put-file
-    (λ c. search needs)
+    (λ c. omega arith)
     slice-aggregate-put-file-2
     put-file-requires
-    (λ c. search needs)
+    (λ c. omega arith)
     returns
-    (λ c. search needs)
+    (λ c. omega arith)
     returns-2)

@@ -3,8 +3,8 @@ use mathlib.Core.Path.{_≡_}
 use Prim.Native.Nat.{_+_, _-_, _≤_}
 use native.Mathlib.Omega.{arith}
 use lib.ListN.{length, drop}
-use Rattle.dimacs.specs.Request.{front}
-use Rattle.dimacs.proofs.Asking.{front-end, front-low, front-high, front-more}
+use Rattle.wording.specs.Request.{front}
+use Rattle.wording.proofs.Asking.{front-end, front-low, front-high, front-more}
 use Rattle.dimacs.proofs.read.front.Statement.{statement}
 use Rattle.dimacs.proofs.read.front.Tie as tie
 

@@ -1,11 +1,10 @@
 -- `dimacs::read::read_request`: the definition's tests in its order. Assumes nothing.
-use borrow.Author.Needs.{needs}
 use mathlib.Core.Path.{ap₂, _∙_}
 use Prim.Native.Nat.{_+_}
 use native.Mathlib.Omega.{arith}
 use lib.ListN.{length-take}
-use Rattle.dimacs.specs.Request.{width-asked}
-use Rattle.dimacs.proofs.Asking.{request-none, request-long, request-end, request-other, request-on, rest-all}
+use Rattle.wording.specs.Request.{width-asked}
+use Rattle.wording.proofs.Asking.{request-none, request-long, request-end, request-other, request-on, rest-all}
 use Rattle.dimacs.proofs.read.read_request.Statement.{statement}
 use Rattle.dimacs.proofs.read.read_request.Tie as tie
 
@@ -40,17 +39,17 @@ pub read-request-spec : {M : Type 1} → statement M
 read-request-spec =
     tie.close
     (tie.spec
-    (λ c κs. search needs)
+    (λ c κs. omega arith)
     returns
     returns-2
     returns-3
-    (λ c. search needs)
+    (λ c. omega arith)
     returns-4
-    (λ c. search needs)
+    (λ c. omega arith)
     slice-aggregate-value
     value-requires
-    (λ c. search needs)
-    (λ c. search needs)
-    (λ c. search needs)
-    (λ c κs. search needs)
+    (λ c. omega arith)
+    (λ c. omega arith)
+    (λ c. omega arith)
+    (λ c κs. omega arith)
     returns-5)

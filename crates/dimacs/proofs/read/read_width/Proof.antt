@@ -1,10 +1,9 @@
 -- `dimacs::read::read_width`: the definition's tests in its order. Assumes nothing.
-use borrow.Author.Needs.{needs}
 use mathlib.Core.Path.{ap, _∙_}
 use native.Mathlib.Omega.{arith}
 use lib.ListN.{length-take}
-use Rattle.dimacs.specs.declared.Request.the-variants.{Asked}
-use Rattle.dimacs.proofs.Asking.{width-none, width-long, width-more, width-other, width-right}
+use Rattle.wording.specs.declared.Request.the-variants.{Asked}
+use Rattle.wording.proofs.Asking.{width-none, width-long, width-more, width-other, width-right}
 use Rattle.dimacs.proofs.read.read_width.Statement.{statement}
 use Rattle.dimacs.proofs.read.read_width.Tie as tie
 
@@ -36,12 +35,12 @@ pub read-width-spec : {M : Type 1} → statement M
 read-width-spec =
     tie.close
     (tie.spec
-    (λ c κs. search needs)
+    (λ c κs. omega arith)
     returns
     returns-2
-    (λ c. search needs)
+    (λ c. omega arith)
     returns-3
-    (λ c. search needs)
+    (λ c. omega arith)
     returns-4
     slice-aggregate-value
     value-requires

@@ -4,8 +4,8 @@ use Prim.Native.Nat.{_+_, _-_, _*_, _^_, _≤_}
 use native.Mathlib.Omega.{arith}
 use lib.ListN.{length, take}
 use lib.Seq.{take-all}
-use Rattle.dimacs.specs.Decimal.{value-from, value-of}
-use Rattle.dimacs.proofs.Asking.{value-next, ten, ten-more}
+use Rattle.wording.specs.Decimal.{value-from, value-of}
+use Rattle.wording.proofs.Asking.{value-next, ten, ten-more}
 use Rattle.dimacs.proofs.read.value.Statement.{statement}
 use Rattle.dimacs.proofs.read.value.Tie as tie
 

@@ -8,11 +8,11 @@ use lib.Seq.{take-all}
 use mir.Syntax.{w32}
 use mir.ValLaws.{toZ-ofZ}
 use Rattle.dimacs.specs.Put.{Put}
-use Rattle.dimacs.specs.File.{entries}
+use Rattle.wording.specs.File.{entries}
 use Rattle.dimacs.proofs.Place.{put-none, put-two}
-use Rattle.dimacs.proofs.Decimal.{signed-short}
-use Rattle.dimacs.proofs.Sign.{signed-fits}
-use Rattle.dimacs.proofs.Rows.{entries-more}
+use Rattle.wording.proofs.Decimal.{signed-short}
+use Rattle.wording.proofs.Sign.{signed-fits}
+use Rattle.wording.proofs.Rows.{entries-more}
 use Rattle.dimacs.proofs.text.put_entries.Statement.{statement}
 use Rattle.dimacs.proofs.text.put_entries.Tie as tie
 

@@ -1,6 +1,6 @@
 -- `dimacs::text::put_file`: one write behind the other. Assumes nothing.
-use borrow.Author.Needs.{needs}
-use Rattle.dimacs.specs.File.{line-1, line-3, file-text}
+use native.Mathlib.Omega.{arith}
+use Rattle.wording.specs.File.{line-1, line-3, file-text}
 use Rattle.dimacs.proofs.Place.{put-two}
 use Rattle.dimacs.proofs.text.put_file.Statement.{statement}
 use Rattle.dimacs.proofs.text.put_file.Tie as tie
@@ -17,11 +17,11 @@ pub put-file-spec : {M : Type 1} → statement M
 put-file-spec =
     tie.close
     (tie.spec
-    (λ c. search needs)
-    (λ c κs. search needs)
-    (λ c κs. search needs)
-    (λ c. search needs)
-    (λ c κs. search needs)
-    (λ c κs. search needs)
-    (λ c. search needs)
+    (λ c. omega arith)
+    (λ c κs. omega arith)
+    (λ c κs. omega arith)
+    (λ c. omega arith)
+    (λ c κs. omega arith)
+    (λ c κs. omega arith)
+    (λ c. omega arith)
     returns)

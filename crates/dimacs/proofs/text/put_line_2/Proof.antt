@@ -1,7 +1,6 @@
 -- `dimacs::text::put_line_2`: one write behind the other. Assumes nothing.
-use borrow.Author.Needs.{needs}
 use native.Mathlib.Omega.{arith}
-use Rattle.dimacs.specs.File.{line-2}
+use Rattle.wording.specs.File.{line-2}
 use Rattle.dimacs.proofs.Place.{put-two}
 use Rattle.dimacs.proofs.text.put_line_2.Statement.{statement}
 use Rattle.dimacs.proofs.text.put_line_2.Tie as tie
@@ -17,9 +16,9 @@ pub put-line-2-spec : {M : Type 1} → statement M
 put-line-2-spec =
     tie.close
     (tie.spec
-    (λ c. search needs)
-    (λ c κs. search needs)
-    (λ c κs. search needs)
+    (λ c. omega arith)
     (λ c κs. omega arith)
-    (λ c. search needs)
+    (λ c κs. omega arith)
+    (λ c κs. omega arith)
+    (λ c. omega arith)
     returns)

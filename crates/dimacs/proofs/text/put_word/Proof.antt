@@ -1,10 +1,9 @@
 -- `dimacs::text::put_word`: the number, then the byte that its test for zero picks. Assumes nothing.
-use borrow.Author.Needs.{needs}
 use native.Mathlib.Omega.{arith}
 use mir.Syntax.{w32}
 use mir.ValLaws.{toZ-ofZ}
 use Rattle.dimacs.proofs.Place.{put-two}
-use Rattle.dimacs.proofs.Sign.{signed-fits, word-zero, word-other, zero-of, nonzero-of}
+use Rattle.wording.proofs.Sign.{signed-fits, word-zero, word-other, zero-of, nonzero-of}
 use Rattle.dimacs.proofs.text.put_word.Statement.{statement}
 use Rattle.dimacs.proofs.text.put_word.Tie as tie
 
@@ -38,8 +37,8 @@ put-word-spec =
     (tie.spec
     put-signed-requires
     put-byte-requires
-    (λ c. search needs)
+    (λ c. omega arith)
     returns
     put-byte-requires-2
-    (λ c. search needs)
+    (λ c. omega arith)
     returns-2)

@@ -8,10 +8,10 @@ use lib.Seq.{take-all}
 use mir.Syntax.{w32}
 use mir.ValLaws.{toZ-ofZ}
 use Rattle.dimacs.specs.Put.{Put}
-use Rattle.dimacs.specs.File.{words-text}
+use Rattle.wording.specs.File.{words-text}
 use Rattle.dimacs.proofs.Place.{put-none, put-two}
-use Rattle.dimacs.proofs.Decimal.{word-text-short}
-use Rattle.dimacs.proofs.Rows.{words-more}
+use Rattle.wording.proofs.Decimal.{word-text-short}
+use Rattle.wording.proofs.Rows.{words-more}
 use Rattle.dimacs.proofs.text.put_words.Statement.{statement}
 use Rattle.dimacs.proofs.text.put_words.Tie as tie
 

@@ -2,7 +2,7 @@
 use mathlib.Core.Path.{sym, _∙_}
 use mathlib.Core.List.{[]}
 use native.Mathlib.Omega.{arith}
-use Rattle.write.proofs.Codes.{bit-zero, bit-one}
+use Rattle.gates.proofs.Codes.{bit-zero, bit-one}
 use Rattle.write.proofs.CodeColumns.{carry-from-two, carry-below-two}
 use Rattle.write.proofs.column.carry_of_none.Statement.{statement}
 use Rattle.write.proofs.column.carry_of_none.Tie as tie

@@ -2,8 +2,8 @@
 use mathlib.Core.Path.{sym, _∙_}
 use mathlib.Core.List.{[], _∷_}
 use native.Mathlib.Omega.{arith}
-use Rattle.write.specs.Code.{literal-of}
-use Rattle.write.proofs.Codes.{bit-zero, bit-one, bit-literal}
+use Rattle.gates.specs.Code.{literal-of}
+use Rattle.gates.proofs.Codes.{bit-zero, bit-one, bit-literal}
 use Rattle.write.proofs.CodeColumns.{carry-at-zero, carry-at-one, carry-from-two}
 use Rattle.write.proofs.column.carry_of_one.Statement.{statement}
 use Rattle.write.proofs.column.carry_of_one.Tie as tie

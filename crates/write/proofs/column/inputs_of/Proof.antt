@@ -2,8 +2,8 @@
 use mathlib.Core.Path.{ap}
 use mathlib.Core.List.{[], _∷_}
 use native.Mathlib.Omega.{arith}
-use Rattle.write.specs.Code.{bit-of}
-use Rattle.write.specs.Gate.{Sees}
+use Rattle.gates.specs.Code.{bit-of}
+use Rattle.write.specs.Column.{Sees}
 use Rattle.write.specs.declared.column.Inputs.{Inputs}
 use Rattle.write.specs.declared.column.Unfixed.the-variants.{Nil}
 use Rattle.write.proofs.CodeColumns.{sees-none, sees-more, ones-few}

@@ -1,6 +1,6 @@
 -- `column::with_input`: one input more.
 use borrow.Author.Tests.{lt-ltb, le-ltb}
-use Rattle.write.specs.Gate.{with-input}
+use Rattle.write.specs.Column.{with-input}
 use borrow.Author.Needs.{needs}
 use Rattle.write.proofs.column.with_input.Statement.{statement}
 use Rattle.write.proofs.column.with_input.Tie as tie

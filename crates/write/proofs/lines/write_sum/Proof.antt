@@ -1,8 +1,11 @@
 -- `lines::write_sum`: the columns one by one (proofs/Sums.antt).
 use Prim.Native.Nat.{_≤_, _-_}
+use mathlib.Core.Path.{ap}
 use native.Mathlib.Omega.{arith}
-use Rattle.write.specs.Code.{bit-of, bits-of}
+use Rattle.gates.specs.Code.{bit-of, bits-of}
 use Rattle.product.specs.Lines.{adder}
+use Rattle.gates.specs.declared.Taken.{Taken}
+use Rattle.gates.proofs.GateWords.{column-few}
 use Rattle.write.proofs.Sums.{Upto, begin, more, done}
 use borrow.Author.Needs.{needs}
 use Rattle.write.proofs.lines.write_sum.Statement.{statement}
@@ -22,19 +25,29 @@ loop-holds c =
     let p = c .before .before .before .pre in
     (omega arith, begin (a .left .now) (a .right .now) (a .first) (a .m) (a .from) (a .sums .now) (a .room .now) (p .lefts) (p .rights) (p .next-pos))
 
+add-used : tie.Need-add-used Inv-loop μ-loop
+add-used c =
+    let k = c .before .before .before .before .before .column .result in
+    omega (arith, c .before .before .before .before .before .before .before .before .before .before .before .before .before .pre .words-small, c .before .before .before .before .before .before .before .before .before .loop .inv .1 .used-small, ap (λ (t : Taken). t .words) (c .before .before .write-column .ensures .0), column-few (k .parity) (k .majority))
+
+add-made : tie.Need-add-made Inv-loop μ-loop
+add-made c =
+    let k = c .before .before .before .before .before .before .column .result in
+    omega (arith, c .before .before .before .before .before .before .before .before .before .before .before .before .before .before .pre .clauses-small, c .before .before .before .before .before .before .before .before .before .before .loop .inv .1 .n-small, ap (λ (t : Taken). t .clauses) (c .before .before .before .write-column .ensures .0), column-few (k .parity) (k .majority))
+
 loop-again : tie.Need-loop-again Inv-loop μ-loop
 loop-again c =
-    let a = c .before .before .before .before .before .before .before .before .before .before .before .before .before .args in
-    let p = c .before .before .before .before .before .before .before .before .before .before .before .before .before .pre in
-    let l = c .before .before .before .before .before .before .before .before .before .loop in
-    let f = c .before .before .before .before .before .column in
-    let s = c .before .before .before .before .least in
-    let y = c .before .before .write-column in (
-      omega arith,
+    let a = c .before .before .before .before .before .before .before .before .before .before .before .before .before .before .args in
+    let p = c .before .before .before .before .before .before .before .before .before .before .before .before .before .before .pre in
+    let l = c .before .before .before .before .before .before .before .before .before .before .loop in
+    let f = c .before .before .before .before .before .before .column in
+    let s = c .before .before .before .before .before .least in
+    let y = c .before .before .before .write-column in
+    let h = c .before .before .before .before .before .before .before .before .before .loop-test .taken in (
+      omega (arith, h),
       more (a .left .now) (a .right .now) (a .first) (a .m) (a .from) (a .sums .now) (a .room .now) (p .lefts) (p .rights)
-          (l .sums) (l .room) (l .carry) (l .free) (l .used) (l .made) (l .j) (omega arith) (l .inv .1) (f .result) (f .ensures)
-          (s .result) (s .ensures .0) (s .ensures .1) (y .last .1 .0) (y .result) (c .column-clauses .result) (y .ensures) (y .kept .1 .0)
-          (c .column-clauses .ensures .0) (c .column-clauses .ensures .1),
+          (l .sums) (l .room) (l .carry) (l .free) (l .used) (l .made) (l .j) (omega (arith, h)) (l .inv .1) (f .result) (f .ensures)
+          (s .result) (s .ensures .0) (s .ensures .1) (y .result) (y .ensures .0) (y .last .1 .1 .0) (y .ensures .1) (y .kept .1 .1 .0),
     )
 
 same-length : tie.Need-same-length Inv-loop μ-loop
@@ -54,8 +67,4 @@ returns c =
 pub write-sum-spec : {M : Type 1} → statement M
 write-sum-spec =
     tie.close
-    (tie.spec Inv-loop μ-loop loop-holds (λ c. search needs) (λ c. search needs) (λ c. search needs)
-    (λ c. search needs) (λ c. search needs) (λ c κs. search needs) (λ c. search needs) (λ c. search needs)
-    (λ c κs. search needs) (λ c. search needs) (λ c. search needs) (λ c. search needs) (λ c. search needs)
-    (λ c κs. search needs) (λ c. search needs) (λ c κs. search needs) (λ c. search needs) (λ c. search needs)
-    (λ c. search needs) loop-again same-length same-length-2 returns)
+    (tie.spec Inv-loop μ-loop loop-holds (λ c. search needs) (λ c. search needs) (λ c. search needs) (λ c. search needs) (λ c. search needs) (λ c κs. search needs) (λ c. search needs) (λ c. search needs) (λ c κs. search needs) (λ c. search needs) (λ c. search needs) (λ c. search needs) (λ c. search needs) (λ c κs. search needs) add-used add-made (λ c. search needs) (λ c. search needs) loop-again same-length same-length-2 returns)

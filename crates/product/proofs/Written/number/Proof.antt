@@ -1,0 +1,16 @@
+-- `Written::number` meets its contract, case by case. Assumes nothing.
+use mathlib.Core.Path.{sym, ap, _∙_}
+use native.Mathlib.Omega.{arith}
+use borrow.Author.Needs.{needs}
+use Rattle.product.specs.Write.{written-number}
+use Rattle.product.proofs.Written.number.Statement.{statement}
+use Rattle.product.proofs.Written.number.Tie as tie
+
+success : tie.Need-returns
+success c = (sym (ap written-number (c .enum-told .given .1)), omega arith)
+
+refusal : tie.Need-returns-2
+refusal c = (c .number .ensures .0 ∙ sym (ap written-number (c .before .before .self .given .1)), c .number .ensures .1)
+
+pub number-spec : {M : Type 1} → statement M
+number-spec = tie.close (tie.spec (λ c. search needs) (λ c. search needs) (λ c κs. search needs) success refusal)

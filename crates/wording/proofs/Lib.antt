@@ -1,0 +1,9 @@
+pub mod Decimal
+pub mod Sign
+pub mod Rows
+pub mod Asking
+pub mod Says
+pub mod ReadsBack
+pub mod Filed
+pub mod Program
+pub mod Cases

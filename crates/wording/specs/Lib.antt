@@ -1,0 +1,4 @@
+pub mod Decimal
+pub mod Request
+pub mod File
+pub mod Print
