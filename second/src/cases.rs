@@ -2,7 +2,8 @@
 //! the proofs compute. Only the numbers come from here; the table's layout is
 //! that of the definitions' own formatter.
 
-use crate::{check, plan, print, write};
+use crate::edges::{self, Call};
+use crate::{check, plan, print, write_plain, Counts};
 
 /// The chosen splits of all odd numbers of at most this many bits are printed.
 const TABLE_BITS: u32 = 9;
@@ -18,6 +19,8 @@ pub fn table() -> String {
         field("checked", checked()),
         field("written", written()),
         field("write-rooms", write_rooms()),
+        field("given", edges::calls().iter().map(given_row).collect()),
+        field("given-rooms", edges::rooms().iter().map(given_rooms_row).collect()),
         field("printed", printed()),
     ];
     format!("{HEAD}{}\n\nunfoldable pub agreed : Table\nagreed =\n    record {{\n{}    }}\n", splits(), rows.concat())
@@ -196,7 +199,7 @@ fn recipes() -> Vec<(u64, u64, Vec<u8>)> {
 }
 
 fn write_lengths(c: u64, w: u64, recipe: &[u8]) -> (usize, usize) {
-    let counts = write(c, w, recipe, &mut [0; 32], &mut [0; 80_000]).expect("the rooms are long enough");
+    let counts = write_plain(c, w, recipe, &mut [0; 32], &mut [0; 80_000]).expect("the rooms are long enough");
     (counts.bits, counts.words)
 }
 
@@ -216,23 +219,56 @@ fn written() -> Vec<String> {
     rows
 }
 
+/// A call of writing in rooms of two lengths: what it is shown as, and the
+/// call itself, which is document 01's or one over given literals.
+struct Writing<'a> {
+    c: u64,
+    w: u64,
+    recipe: &'a [u8],
+    bits: usize,
+    clauses: usize,
+    call: &'a Filling<'a>,
+}
+
+type Filling<'a> = dyn Fn(&mut [i32], &mut [i32]) -> Result<Counts, u8> + 'a;
+
+impl Writing<'_> {
+    /// The answer and both rooms at exit.
+    fn done(&self) -> (Result<Counts, u8>, Vec<i32>, Vec<i32>) {
+        let (mut bit_room, mut clause_room) =
+            (vec![i32::from(BEFORE); self.bits], vec![i32::from(BEFORE); self.clauses]);
+        ((self.call)(&mut bit_room, &mut clause_room), bit_room, clause_room)
+    }
+
+    fn arguments(&self) -> String {
+        let Writing { c, w, recipe, bits, clauses, .. } = self;
+        format!("c = {c}; w = {w}; recipe = {}; bits = {bits}; clauses = {clauses}", naturals(recipe))
+    }
+
+    fn answer_row(&self) -> String {
+        let (answer, bit_room, _) = self.done();
+        let counts =
+            answer.as_ref().map_or([0; 4], |counts| [counts.words, counts.clauses, counts.next as usize, counts.bits]);
+        let shown = format!(
+            "words-used = {}; clauses-written = {}; next = {}; y = {}",
+            counts[0],
+            counts[1],
+            counts[2],
+            integers(&bit_room[..counts[3]])
+        );
+        format!("record {{ {}; number = {}; {shown} }}", self.arguments(), number(&answer))
+    }
+
+    fn rooms_row(&self) -> String {
+        let (_, bit_room, clause_room) = self.done();
+        let rooms = format!("bit-room = {}; clause-room = {}", integers(&bit_room), integers(&clause_room));
+        format!("record {{ {}; {rooms} }}", self.arguments())
+    }
+}
+
 fn written_row(c: u64, w: u64, recipe: &[u8], bits: usize, clauses: usize) -> String {
-    let mut bit_room = vec![i32::from(BEFORE); bits];
-    let answer = write(c, w, recipe, &mut bit_room, &mut vec![i32::from(BEFORE); clauses]);
-    let counts =
-        answer.as_ref().map_or([0; 4], |counts| [counts.words, counts.clauses, counts.highest as usize, counts.bits]);
-    let shown = format!(
-        "words-used = {}; clauses-written = {}; highest = {}; y = {}",
-        counts[0],
-        counts[1],
-        counts[2],
-        integers(&bit_room[..counts[3]])
-    );
-    format!(
-        "record {{ c = {c}; w = {w}; recipe = {}; bits = {bits}; clauses = {clauses}; number = {}; {shown} }}",
-        naturals(recipe),
-        number(&answer)
-    )
+    let call = |y: &mut [i32], words: &mut [i32]| write_plain(c, w, recipe, y, words);
+    Writing { c, w, recipe, bits, clauses, call: &call }.answer_row()
 }
 
 fn write_rooms() -> Vec<String> {
@@ -249,10 +285,24 @@ fn write_rooms() -> Vec<String> {
 }
 
 fn write_rooms_row(c: u64, w: u64, recipe: &[u8], bits: usize, clauses: usize) -> String {
-    let (mut bit_room, mut clause_room) = (vec![i32::from(BEFORE); bits], vec![i32::from(BEFORE); clauses]);
-    let _ = write(c, w, recipe, &mut bit_room, &mut clause_room);
-    let rooms = format!("bit-room = {}; clause-room = {}", integers(&bit_room), integers(&clause_room));
-    format!("record {{ c = {c}; w = {w}; recipe = {}; bits = {bits}; clauses = {clauses}; {rooms} }}", naturals(recipe))
+    let call = |y: &mut [i32], words: &mut [i32]| write_plain(c, w, recipe, y, words);
+    Writing { c, w, recipe, bits, clauses, call: &call }.rooms_row()
+}
+
+/// The literals and the first free number around a row of writing.
+fn given(given: &Call, row: impl Fn(&Writing) -> String) -> String {
+    let Call { c, w, x, first, recipe, bits, clauses } = given;
+    let call = |y: &mut [i32], words: &mut [i32]| given.answer(y, words);
+    let writing = Writing { c: *c, w: *w, recipe, bits: *bits, clauses: *clauses, call: &call };
+    format!("record {{ x = {}; first = {first}; call = {} }}", integers(x), row(&writing))
+}
+
+fn given_row(call: &Call) -> String {
+    given(call, |writing| writing.answer_row())
+}
+
+fn given_rooms_row(call: &Call) -> String {
+    given(call, |writing| writing.rooms_row())
 }
 
 fn printed() -> Vec<String> {
@@ -283,4 +333,39 @@ fn printed() -> Vec<String> {
     inputs
         .map(|input| format!("record {{ input = {}; output = {} }}", naturals(input), naturals(&print(input))))
         .to_vec()
+}
+
+#[cfg(test)]
+mod tests {
+    use super::*;
+
+    #[test]
+    fn integers_at_both_ends() {
+        let shown = "negsuc 2147483647 ∷ negsuc 0 ∷ pos 0 ∷ pos 2147483647 ∷ []";
+        assert_eq!(integers(&[i32::MIN, -1, 0, i32::MAX]), shown);
+    }
+
+    #[test]
+    fn a_row_over_given_literals() {
+        let call = Call { c: 6, w: 1, x: vec![-9], first: 12, recipe: recipe_for(3), bits: 3, clauses: 1 };
+        let shown = "record { c = 6; w = 1; recipe = 32 ∷ 4 ∷ 0 ∷ 0 ∷ 3 ∷ []; bits = 3; clauses = 1; ";
+        let row = "number = 0; words-used = 0; clauses-written = 0; next = 12; y = pos 0 ∷ negsuc 8 ∷ negsuc 8 ∷ [] }";
+        let rooms = "bit-room = pos 0 ∷ negsuc 8 ∷ negsuc 8 ∷ []; clause-room = pos 7 ∷ [] }";
+        let around = "record { x = negsuc 8 ∷ []; first = 12; call = ";
+        assert_eq!(given_row(&call), format!("{around}{shown}{row} }}"));
+        assert_eq!(given_rooms_row(&call), format!("{around}{shown}{rooms} }}"));
+        let refused = Call { first: 9, ..call };
+        assert!(given_row(&refused).ends_with("number = 14; words-used = 0; clauses-written = 0; next = 0; y = [] } }"));
+    }
+
+    /// Without repeats, and with every refusal that writing has beside the lines'.
+    #[test]
+    fn the_rows_over_given_literals_differ_and_meet_every_refusal() {
+        let rows: Vec<String> = edges::calls().iter().map(given_row).collect();
+        let distinct: std::collections::BTreeSet<&String> = rows.iter().collect();
+        assert_eq!(distinct.len(), rows.len());
+        for number in [0, 1, 2, 14, 3, 7, 8, 15, 9, 10] {
+            assert!(rows.iter().any(|row| row.contains(&format!("; number = {number};"))), "{number}");
+        }
+    }
 }

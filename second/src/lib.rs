@@ -1,6 +1,6 @@
 //! Constant products as clauses: plan a recipe for `c`, check one, write its
-//! clauses, print them as a DIMACS file. Written from document 01 alone, to
-//! stand beside the first engine and be compared with it.
+//! clauses, print them as a DIMACS file. Written from documents 01 and 02 alone
+//! (of 02, a so far), to stand beside the first engine and be compared with it.
 
 #![forbid(unsafe_code)]
 
@@ -8,6 +8,7 @@ mod bit;
 pub mod cases;
 mod checker;
 mod column;
+mod edges;
 mod line;
 mod number;
 mod planner;
@@ -22,4 +23,4 @@ mod writer;
 pub use checker::check;
 pub use planner::plan;
 pub use printer::{print, print_recipe};
-pub use writer::{write, Counts};
+pub use writer::{write, write_plain, Counts};

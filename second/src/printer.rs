@@ -3,7 +3,7 @@
 use crate::line::{LINE_BYTES, MAX_LINES};
 use crate::planner::plan;
 use crate::refusal::INPUT;
-use crate::writer::{write, Counts};
+use crate::writer::{write_plain, Counts};
 
 /// The work room for constants of 16 bits.
 const WORK_ROOM: usize = 1 << 15;
@@ -55,13 +55,13 @@ fn planned_file(c: u64, w: u64) -> Result<String, u8> {
 fn file(c: u64, w: u64, recipe: &[u8]) -> Result<String, u8> {
     let mut bits = [0; BIT_ROOM];
     let mut clauses = vec![0; CLAUSE_ROOM];
-    let counts = write(c, w, recipe, &mut bits, &mut clauses)?;
+    let counts = write_plain(c, w, recipe, &mut bits, &mut clauses)?;
     Ok(dimacs(c, w, &counts, &bits[..counts.bits], &clauses[..counts.words]))
 }
 
 fn dimacs(c: u64, w: u64, counts: &Counts, y: &[i32], words: &[i32]) -> String {
     let y = y.iter().map(|bit| format!(" {bit}")).collect::<String>();
-    let mut text = format!("c mul {c} {w}\nc y{y}\np cnf {} {}\n", counts.highest, counts.clauses);
+    let mut text = format!("c mul {c} {w}\nc y{y}\np cnf {} {}\n", counts.next - 1, counts.clauses);
     for word in words {
         text += &word.to_string();
         // Only the closing 0 of a clause is a 0 word.

@@ -13,9 +13,13 @@ pub const CLAUSE_ROOM: u8 = 10;
 pub const WORK_ROOM: u8 = 11;
 pub const RECIPE_ROOM: u8 = 12;
 pub const INPUT: u8 = 13;
+pub const LITERALS: u8 = 14;
+pub const VARIABLES: u8 = 15;
 
 const C_MAX: u64 = 65_535;
-const W_MAX: u64 = 16;
+pub const W_MAX: u64 = 16;
+/// The largest next free number: one past the largest variable that a word can name.
+pub const NEXT_MAX: u64 = 1 << 31;
 
 /// The number of the first test that speaks against going on.
 pub fn first_of(tests: &[(u8, bool)]) -> Result<(), u8> {

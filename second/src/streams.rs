@@ -1,9 +1,10 @@
 //! Calls as records on a byte stream, for programs to answer, and the answers
 //! that are right. A stream's records are given with each pair of functions.
 
+use crate::edges::{self, needed, Call, END};
 use crate::line::{Line, LINE_BYTES, MAX_LINES};
 use crate::random::Random;
-use crate::{check, plan, write};
+use crate::{check, plan, write, write_plain};
 
 const MAX_COEFFICIENT: i64 = 1_048_575;
 const MAX_CONSTANT: u64 = 65_535;
@@ -174,25 +175,29 @@ pub fn recipe_answers(stream: &[u8]) -> Vec<u8> {
     letters.chunks(64).flat_map(|row| [row, b"\n"].concat()).collect()
 }
 
-// ---- writing: c (4), w (1), the lengths of the recipe (1), of the bit room (1) and of the clause room (2), the recipe. The
-// answer is a line: the refusal's number or 0, words, clauses, highest variable, bits of y, and a checksum of both rooms at
-// exit, every entry of which was 7.
+// ---- writing: the call (1 byte: 0 document 01's, 1 the one over given literals), c (4), w (1), the number of literals (1), at
+// most 40, the first free number (4), the lengths of the recipe (1), of the bit room (1) and of the clause room (2), the
+// literals (4 each, two's complement), the recipe. Document 01's call has no literals and the first free number 0. The answer is
+// a line: the refusal's number or 0, words, clauses, next free number, bits of y, and a checksum of both rooms at exit, every
+// entry of which was 7.
+
+const PLAIN: u8 = 0;
+const GIVEN: u8 = 1;
 
 fn checksum(entries: impl Iterator<Item = u32>) -> u32 {
     entries.fold(0, |sum: u32, entry| sum.wrapping_mul(31).wrapping_add(entry))
 }
 
 /// The rooms' lengths: mostly what is needed and some more, else one too short.
-fn rooms(c: u64, w: u64, recipe: &[u8], random: &mut Random) -> (u8, u16) {
-    let needed = write(c, w, recipe, &mut [0; 32], &mut vec![0; 73_728]);
-    let (mut bits, mut words) = needed.map_or((5, 5), |counts| (counts.bits, counts.words));
+fn rooms(c: u64, w: u64, recipe: &[u8], random: &mut Random) -> (usize, usize) {
+    let (mut bits, mut words) = needed(c, w, recipe).map_or((5, 5), |counts| (counts.bits, counts.words));
     match random.up_to(7) {
         0 => bits -= usize::from(bits > 0),
         1 => words -= usize::from(words > 0),
         2 => {}
         _ => (bits, words) = (bits + random.up_to(3) as usize, words + random.up_to(5) as usize),
     }
-    (bits as u8, words.min(65_535) as u16)
+    (bits, words.min(65_535))
 }
 
 fn write_case(round: usize, random: &mut Random) -> (u64, u64, Vec<u8>) {
@@ -201,45 +206,202 @@ fn write_case(round: usize, random: &mut Random) -> (u64, u64, Vec<u8>) {
     (c, w, recipe)
 }
 
-/// A constant, a width, a recipe and the lengths of both rooms.
-type WriteCase = (u64, u64, Vec<u8>, (u8, u16));
+/// Document 01's call: no literals, and no number is said to be free.
+fn plain(c: u64, w: u64, recipe: Vec<u8>, (bits, clauses): (usize, usize)) -> Call {
+    Call { c, w, x: Vec::new(), first: 0, recipe, bits, clauses }
+}
 
 /// Document 01's recipes at widths 1 to 4 and 16 in long rooms, and its rooms that are one too short.
-fn bench_writes() -> Vec<WriteCase> {
-    let mut cases = Vec::new();
+fn bench_writes() -> Vec<Call> {
+    let mut calls = Vec::new();
     for (c, recipe) in bench_recipes() {
-        cases.extend([1, 2, 3, 4, 16, 17, 0].map(|w| (c, w, recipe.clone(), (40, 9_000))));
+        calls.extend([1, 2, 3, 4, 16, 17, 0].map(|w| plain(c, w, recipe.clone(), (40, 9_000))));
     }
     let three = planned(3);
-    cases.extend([(4, 52), (4, 51), (3, 52), (3, 51)].map(|rooms| (3, 2, three.clone(), rooms)));
-    cases.extend([(5, 2), (7, 1), (6, 2), (53, 8)].map(|(c, w)| (c, w, planned(c), (20, 2_000))));
-    cases
+    calls.extend([(4, 52), (4, 51), (3, 52), (3, 51)].map(|rooms| plain(3, 2, three.clone(), rooms)));
+    calls.extend([(5, 2), (7, 1), (6, 2), (53, 8)].map(|(c, w)| plain(c, w, planned(c), (20, 2_000))));
+    calls
+}
+
+/// The small edges; a variable named twice at any width; other numbers of literals than bits; and document 01's recipes from
+/// the lowest first number that will do, and from the highest, with its neighbours.
+fn edge_writes() -> Vec<Call> {
+    let mut calls = edges::calls();
+    calls.extend((2..=16).filter(|w| *w != edges::PAIRS).flat_map(edges::pairs));
+    calls.extend([0, 15, 16, 17, 40].map(|many| signed(3, 16, many, 41, planned(3))));
+    for (c, recipe) in bench_recipes() {
+        for w in [1, 2, 3, 4, 16] {
+            let last = END - opened(c, w, &recipe);
+            let firsts = [w as u32, w as u32 + 1, last, last + 1, END, END + 1];
+            calls.extend(firsts.map(|first| signed(c, w, w as usize, first, recipe.clone())));
+        }
+    }
+    calls
+}
+
+/// Over so many literals, 1, -2, 3 and so on, in long rooms.
+fn signed(c: u64, w: u64, many: usize, first: u32, recipe: Vec<u8>) -> Call {
+    let x = (1..).map(|i| if i % 2 == 0 { -i } else { i }).take(many).collect();
+    Call { c, w, x, first, recipe, bits: 40, clauses: 9_000 }
+}
+
+/// The variables that a call opens; none if it is refused whatever the literals.
+fn opened(c: u64, w: u64, recipe: &[u8]) -> u32 {
+    needed(c, w, recipe).map_or(0, |counts| counts.next - w as u32 - 1)
+}
+
+/// Distinct variables below the first free number, of both signs: the last ones before it, or any. Where too few are below it,
+/// the lowest are taken and some are not.
+fn drawn_literals(many: u64, first: u32, random: &mut Random) -> Vec<i32> {
+    let below = u64::from(first.clamp(1, END) - 1).max(many);
+    let span = if random.one_in(2) { below.min(many + random.up_to(3)) } else { below };
+    let mut x: Vec<i32> = Vec::new();
+    while (x.len() as u64) < many {
+        let variable = (below - random.up_to(span - 1)) as i32;
+        if !x.iter().any(|literal| literal.abs() == variable) {
+            x.push(either_sign(variable, random));
+        }
+    }
+    x
+}
+
+fn either_sign(literal: i32, random: &mut Random) -> i32 {
+    if random.one_in(2) {
+        literal.wrapping_neg()
+    } else {
+        literal
+    }
+}
+
+/// A first free number from which the call succeeds, the last such one now and then.
+fn drawn_first(w: u64, opened: u32, random: &mut Random) -> u32 {
+    let further = match random.up_to(9) {
+        0..=2 => 0,
+        3..=5 => random.up_to(40),
+        6..=7 => random.up_to(2_000_000_000),
+        _ => return END - opened,
+    };
+    (w + 1 + further) as u32
+}
+
+/// A call that succeeds, unless it takes more words than a record can give it room for.
+fn right_call(random: &mut Random) -> Call {
+    let ((c, recipe), w) = (right(random), 1 + random.up_to(15));
+    let counts = needed(c, w, &recipe).expect("the recipe is right");
+    let first = drawn_first(w, counts.next - w as u32 - 1, random);
+    let x = drawn_literals(w, first, random);
+    let (bits, clauses) = (counts.bits + random.up_to(3) as usize, counts.words + random.up_to(5) as usize);
+    Call { c, w, x, first, recipe, bits, clauses: clauses.min(65_535) }
+}
+
+/// What can be spoiled in a call, each for another refusal; two spoilings of one call show which refusal is tested first.
+type Spoiling = fn(&mut Call, &mut Random);
+
+const SPOILINGS: [Spoiling; 14] = [
+    |call, random| call.c = any_constant(random),
+    |call, random| call.w = [0, 17, random.up_to(255), 1 + random.up_to(15)][random.up_to(3) as usize],
+    spoiled_literal,
+    spoiled_literal,
+    repeated_literal,
+    repeated_literal,
+    |call, random| call.first = random.up_to(2) as u32,
+    |call, random| match random.up_to(1) {
+        0 => call.recipe.truncate(call.recipe.len().saturating_sub(1)),
+        _ => call.recipe.push(32),
+    },
+    |call, random| turned_over(&mut call.recipe, random),
+    |call, random| call.recipe = right(random).1,
+    |call, random| call.first = END - opened(call.c, call.w, &call.recipe) + 1 + random.up_to(2) as u32,
+    |call, random| {
+        call.first = [END, END + 1, END + random.up_to(END as u64 - 1) as u32, u32::MAX][random.up_to(3) as usize]
+    },
+    |call, _| call.bits = shortened(call).0,
+    |call, _| call.clauses = shortened(call).1,
+];
+
+/// Rooms that are one too short for the call.
+fn shortened(call: &Call) -> (usize, usize) {
+    let less = |length: usize| length.saturating_sub(1).min(65_535);
+    needed(call.c, call.w, &call.recipe).map_or((0, 0), |counts| (less(counts.bits), less(counts.words)))
+}
+
+/// A 0, a variable that is not below the first free number, the lowest word, or a literal too many or too few.
+fn spoiled_literal(call: &mut Call, random: &mut Random) {
+    let high = call.first.saturating_add(random.up_to(2) as u32).min(END - 1) as i32;
+    let spoiled = [0, either_sign(high, random), i32::MIN][random.up_to(2) as usize];
+    let place = random.up_to(call.x.len().saturating_sub(1) as u64) as usize;
+    match (random.up_to(4), call.x.get_mut(place)) {
+        (0, _) | (_, None) => call.x.extend(drawn_literals(1, call.first, random)),
+        (1, _) => drop(call.x.remove(place)),
+        (_, Some(literal)) => *literal = spoiled,
+    }
+}
+
+/// One variable at two places; with one place alone its sign may change, which is no reason to refuse.
+fn repeated_literal(call: &mut Call, random: &mut Random) {
+    if !call.x.is_empty() {
+        let place = |random: &mut Random| random.up_to(call.x.len() as u64 - 1) as usize;
+        let (from, to) = (place(random), place(random));
+        call.x[to] = either_sign(call.x[from], random);
+    }
+}
+
+/// Mostly right, else spoiled once, twice or three times.
+fn given_case(random: &mut Random) -> Call {
+    let mut call = right_call(random);
+    let times = [0, 0, 0, 0, 0, 0, 1, 1, 2, 3][random.up_to(9) as usize];
+    for _ in 0..times {
+        SPOILINGS[random.up_to(SPOILINGS.len() as u64 - 1) as usize](&mut call, random);
+    }
+    call
+}
+
+fn plain_case(round: usize, random: &mut Random) -> Call {
+    let (c, w, recipe) = write_case(171 + round, random);
+    let rooms = rooms(c, w, &recipe, random);
+    plain(c, w, recipe, rooms)
+}
+
+fn drawn_write(round: usize, random: &mut Random) -> (u8, Call) {
+    if random.one_in(3) {
+        (PLAIN, plain_case(round, random))
+    } else {
+        (GIVEN, given_case(random))
+    }
 }
 
 pub fn writes(seed: u64, count: usize) -> Vec<u8> {
     let mut random = Random::seeded(seed);
-    let mut cases = bench_writes();
-    cases.extend((0..count).map(|round| {
-        let (c, w, recipe) = write_case(171 + round, &mut random);
-        let rooms = rooms(c, w, &recipe, &mut random);
-        (c, w, recipe, rooms)
-    }));
-    let mut stream = Vec::new();
-    for (c, w, recipe, (bits, clauses)) in cases {
-        stream.extend((c as u32).to_be_bytes());
-        stream.extend([w as u8, recipe.len() as u8, bits]);
-        stream.extend(clauses.to_be_bytes());
-        stream.extend(recipe);
-    }
-    stream
+    let by_hand = bench_writes().into_iter().map(|call| (PLAIN, call));
+    let by_hand = by_hand.chain(edge_writes().into_iter().map(|call| (GIVEN, call)));
+    let drawn = (0..count).map(|round| drawn_write(round, &mut random));
+    by_hand.chain(drawn).flat_map(|(kind, call)| write_record(kind, &call)).collect()
+}
+
+fn write_record(kind: u8, call: &Call) -> Vec<u8> {
+    let mut record = vec![kind];
+    record.extend((call.c as u32).to_be_bytes());
+    record.extend([call.w as u8, call.x.len() as u8]);
+    record.extend(call.first.to_be_bytes());
+    record.extend([call.recipe.len() as u8, call.bits as u8]);
+    record.extend((call.clauses as u16).to_be_bytes());
+    record.extend(call.x.iter().flat_map(|literal| literal.to_be_bytes()));
+    record.extend(&call.recipe);
+    record
 }
 
 fn write_line(reader: &mut Reader) -> Option<String> {
-    let (c, w, length) = (reader.number(4)?, reader.number(1)?, reader.number(1)?);
+    let (kind, c, w) = (reader.number(1)? as u8, reader.number(4)?, reader.number(1)?);
+    let (many, first, length) = (reader.number(1)?, reader.number(4)? as u32, reader.number(1)? as usize);
     let (mut bits, mut clauses) = (vec![7; reader.number(1)? as usize], vec![7; reader.number(2)? as usize]);
-    let answer = write(c, w, reader.take(length as usize)?, &mut bits, &mut clauses);
+    let x: Vec<i32> = (0..many).map(|_| Some(reader.number(4)? as u32 as i32)).collect::<Option<_>>()?;
+    let recipe = reader.take(length)?;
+    let answer = match kind {
+        PLAIN => write_plain(c, w, recipe, &mut bits, &mut clauses),
+        _ => write(c, w, &x, first, recipe, &mut bits, &mut clauses),
+    };
     let number = answer.as_ref().err().map_or(0, |number| *number);
-    let counts = answer.map_or([0; 4], |counts| [counts.words, counts.clauses, counts.highest as usize, counts.bits]);
+    let counts = answer.map_or([0; 4], |counts| [counts.words, counts.clauses, counts.next as usize, counts.bits]);
     let sum = checksum(bits.iter().chain(&clauses).map(|entry| *entry as u32));
     Some(format!("{number} {} {} {} {} {sum}\n", counts[0], counts[1], counts[2], counts[3]))
 }

@@ -6,31 +6,84 @@ use crate::column::{column, Clauses};
 use crate::line::{Kind, Line};
 use crate::number::{odd_part, product_length};
 use crate::refusal::*;
+use std::collections::BTreeSet;
+use std::ops::Range;
 
-/// What a success tells: words used, clauses, highest variable, bits of y.
+/// What a success tells: words used, clauses, next free number, bits of y.
 #[derive(Clone, Copy, Debug, PartialEq, Eq)]
 pub struct Counts {
     pub words: usize,
     pub clauses: usize,
-    pub highest: u32,
+    pub next: u32,
     pub bits: usize,
 }
 
-/// Writes y and the clauses of `recipe` into the two rooms.
-pub fn write(c: u64, w: u64, recipe: &[u8], bits: &mut [i32], clauses: &mut [i32]) -> Result<Counts, u8> {
-    first_of(&[(C_RANGE, c_out_of_range(c)), (W_RANGE, w_out_of_range(w)), (RECIPE_LENGTH, bad_length(recipe))])?;
+/// Writes y and the clauses of `recipe` into the two rooms, over the literals
+/// `x` and new variables from `first` on.
+///
+/// What is written hangs on which bits are fixed and never on what the others
+/// are called. So the plain encoding is made and its variables are renamed, and
+/// that only after refusal 15, when every name is known to fit a word.
+pub fn write(
+    c: u64,
+    w: u64,
+    x: &[i32],
+    first: u32,
+    recipe: &[u8],
+    bits: &mut [i32],
+    clauses: &mut [i32],
+) -> Result<Counts, u8> {
+    first_of(&[
+        (C_RANGE, c_out_of_range(c)),
+        (W_RANGE, w_out_of_range(w)),
+        (LITERALS, bad_literals(w, x, first)),
+        (RECIPE_LENGTH, bad_length(recipe)),
+    ])?;
     let (w, (d, t)) = (w as usize, odd_part(c));
     let lines = accepted_lines(recipe)?;
-    first_of(&[(PRODUCT, product(&lines) != d), (BIT_ROOM, bits.len() < product_length(c, w))])?;
-    let (product_bits, written) = encoded(w, &lines);
-    first_of(&[(CLAUSE_ROOM, clauses.len() < written.words.len())])?;
-    let y: Vec<i32> = [vec![ZERO; t], product_bits].concat().into_iter().map(Bit::stored).collect();
+    first_of(&[(PRODUCT, product(&lines) != d)])?;
+    let (product_bits, plain) = encoded(w, &lines);
+    let next = u64::from(first) + plain.highest as u64 - w as u64;
+    first_of(&[
+        (VARIABLES, next > NEXT_MAX),
+        (BIT_ROOM, bits.len() < product_length(c, w)),
+        (CLAUSE_ROOM, clauses.len() < plain.words.len()),
+    ])?;
+    let next = next as u32;
+    let names = names(x, first..next);
+    let stored = [vec![ZERO; t], product_bits].concat().into_iter().map(Bit::stored);
+    let (y, words) = (renamed(stored, &names), renamed(plain.words.into_iter(), &names));
     bits[..y.len()].copy_from_slice(&y);
-    clauses[..written.words.len()].copy_from_slice(&written.words);
-    Ok(Counts { words: written.words.len(), clauses: written.count, highest: written.highest as u32, bits: y.len() })
+    clauses[..words.len()].copy_from_slice(&words);
+    Ok(Counts { words: words.len(), clauses: plain.count, next, bits: y.len() })
 }
 
-/// The product's bits and all clauses, line by line.
+/// The call of document 01: the literals 1 to w, and w + 1 is free. A width
+/// out of range is refused before the literals are looked at.
+pub fn write_plain(c: u64, w: u64, recipe: &[u8], bits: &mut [i32], clauses: &mut [i32]) -> Result<Counts, u8> {
+    let x: Vec<i32> = (1..).take(w.min(W_MAX) as usize).collect();
+    write(c, w, &x, x.len() as u32 + 1, recipe, bits, clauses)
+}
+
+/// Good literals name as many variables from 1 to below `first` as there are
+/// bits: a 0, a variable too high or one named twice leaves fewer.
+fn bad_literals(w: u64, x: &[i32], first: u32) -> bool {
+    let below = x.iter().map(|literal| literal.unsigned_abs()).filter(|variable| (1..first).contains(variable));
+    x.len() as u64 != w || below.collect::<BTreeSet<u32>>().len() as u64 != w
+}
+
+/// The caller's name for each plain variable. In front stands 0: the end of
+/// a clause, or a bit of y fixed at 0, is called what it is.
+fn names(x: &[i32], new: Range<u32>) -> Vec<i32> {
+    [0].into_iter().chain(x.iter().copied()).chain(new.map(|variable| variable as i32)).collect()
+}
+
+fn renamed(plain: impl Iterator<Item = i32>, names: &[i32]) -> Vec<i32> {
+    plain.map(|word| word.signum() * names[word.unsigned_abs() as usize]).collect()
+}
+
+/// The product's bits and all clauses, line by line, over the plain variables:
+/// 1 to w for x, then the new ones.
 fn encoded(w: usize, lines: &[Line]) -> (Vec<Bit>, Clauses) {
     let mut clauses = Clauses::above(w);
     let mut operands = vec![(1..=w as i32).map(Bit::Literal).collect::<Vec<Bit>>()];

@@ -51,7 +51,7 @@ fn recipe_63_59() {
 fn y_of_5_at_2() {
     let written = written(5, 2, &planned(5));
     assert_eq!(written.bits, [1, 2, 1, 2]);
-    assert_eq!(written.counts, second::Counts { words: 0, clauses: 0, highest: 2, bits: 4 });
+    assert_eq!(written.counts, second::Counts { words: 0, clauses: 0, next: 3, bits: 4 });
 }
 
 #[test]
@@ -71,14 +71,14 @@ fn recipe_3_5_at_1() {
     let recipe = recipe_of(&[(SPLUS, 0, 1, 0, 3), (SMINUS, 1, 1, 0, 5)]);
     let written = written(5, 1, &recipe);
     assert_eq!(written.bits, [1, 2, 4]);
-    assert_eq!(written.counts, second::Counts { words: 42, clauses: 11, highest: 4, bits: 3 });
+    assert_eq!(written.counts, second::Counts { words: 42, clauses: 11, next: 5, bits: 3 });
 }
 
 #[test]
 fn rooms_of_3_at_2() {
     let recipe = planned(3);
     let with_rooms = |bits: usize, words: usize| {
-        let counts = second::write(3, 2, &recipe, &mut vec![0; bits], &mut vec![0; words]);
+        let counts = second::write_plain(3, 2, &recipe, &mut vec![0; bits], &mut vec![0; words]);
         counts.map(|counts| (counts.bits, counts.words))
     };
     assert_eq!(with_rooms(4, 52), Ok((4, 52)));
@@ -139,7 +139,7 @@ fn adders_as_in_the_passage(recipe: &[u8], w: u64) -> usize {
     for end in (5..=recipe.len()).step_by(5) {
         let (kind, k) = (u64::from(recipe[end - 5] >> 5), u64::from(recipe[end - 1]));
         let written = written(k, w, &recipe[..end]);
-        let upto = adders(&written.room, written.counts.highest);
+        let upto = adders(&written.room, written.highest());
         total += if kind == SPLUS { upto - before } else { written.bits.len() };
         before = upto;
     }
@@ -164,8 +164,8 @@ fn the_largest_c_and_w_pass() {
 fn c_65_536_and_w_17_are_refused() {
     let recipe = planned(65_535);
     let mut rooms = (vec![0; 40], vec![0; WORDS]);
-    assert_eq!(second::write(65_536, 16, &recipe, &mut rooms.0, &mut rooms.1), Err(1));
-    assert_eq!(second::write(65_535, 17, &recipe, &mut rooms.0, &mut rooms.1), Err(2));
+    assert_eq!(second::write_plain(65_536, 16, &recipe, &mut rooms.0, &mut rooms.1), Err(1));
+    assert_eq!(second::write_plain(65_535, 17, &recipe, &mut rooms.0, &mut rooms.1), Err(2));
     assert_eq!(second::plan(65_536, &mut [0; 1 << 16], &mut [0; 160]), Err(1));
     assert_eq!(second::check(65_536, &recipe), Err(1));
 }

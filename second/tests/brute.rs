@@ -8,7 +8,7 @@ const TRIED: u32 = 16;
 
 fn assert_one_model(c: u64, written: &Written, x: u64) {
     let Written { w, counts, bits, room } = written;
-    let models = models(room, *w, counts.highest, x);
+    let models = models(room, *w, counts.next - 1, x);
     assert_eq!(models.len(), 1, "{c} {w} x = {x}");
     assert_eq!(reading_of_model(bits, models[0]), c * x, "{c} {w} x = {x}");
 }
@@ -20,7 +20,7 @@ fn planned_recipes_of_1_to_300() {
         for w in 1..=4 {
             let written = written(c, w, &planned(c));
             assert_counted_off_the_room(&written);
-            let by_trial = written.counts.highest - w as u32 <= TRIED;
+            let by_trial = written.highest() - w as u32 <= TRIED;
             for x in 0..1 << w {
                 if by_trial {
                     assert_one_model(c, &written, x);
@@ -41,7 +41,7 @@ fn no_bit_of_y_is_fixed_at_1() {
         for w in 1..=4 {
             let written = written(c, w, &planned(c));
             for (place, bit) in written.bits.iter().enumerate() {
-                assert!(bit.unsigned_abs() <= written.counts.highest);
+                assert!(bit.unsigned_abs() <= written.highest());
                 let ever = (0..1 << w).any(|x| (c * x) >> place & 1 == 1);
                 assert!(*bit != 0 || !ever, "{c} {w}: bit {place}");
             }

@@ -99,18 +99,24 @@ fn fields(line: &[u8]) -> Fields {
 }
 
 fn assert_listed(c: u64, w: u64, recipe: &[u8]) {
-    let mut listed = Listed { highest: w as i32, ..Listed::default() };
-    let mut operands = vec![(1..=w as i32).collect::<Vec<i32>>()];
+    let x: Vec<i32> = (1..=w as i32).collect();
+    assert_listed_over(c, &x, w as u32 + 1, recipe, &written(c, w, recipe));
+}
+
+/// Over any literals, with new variables from the first free number on.
+fn assert_listed_over(c: u64, x: &[i32], first: u32, recipe: &[u8], written: &Written) {
+    let w = x.len() as u64;
+    let mut listed = Listed { highest: (first - 1) as i32, ..Listed::default() };
+    let mut operands = vec![x.to_vec()];
     for line in recipe.chunks(5) {
         let bits = listed.line(w, fields(line), &operands);
         operands.push(bits);
     }
     let product = operands.last().unwrap().iter().map(|bit| if *bit == FALSE { 0 } else { *bit });
     let y: Vec<i32> = std::iter::repeat_n(0, c.trailing_zeros() as usize).chain(product).collect();
-    let written = written(c, w, recipe);
-    assert_eq!(written.bits, y, "{c} {w}");
-    assert_eq!(written.room, listed.words, "{c} {w}");
-    assert_eq!(written.counts.highest as i32, listed.highest, "{c} {w}");
+    assert_eq!(written.bits, y, "{c} {x:?}");
+    assert_eq!(written.room, listed.words, "{c} {x:?}");
+    assert_eq!(written.highest() as i32, listed.highest, "{c} {x:?}");
 }
 
 #[test]
@@ -131,5 +137,18 @@ fn walks() {
     for round in 0..600 {
         let (d, lines) = walk(round % 33, &mut random);
         assert_listed(d << random.up_to(16 - bit_length(d) as u64), 1 + random.up_to(15), &recipe_of(&lines));
+    }
+}
+
+#[test]
+fn walks_over_given_literals() {
+    let mut random = Random::seeded(10);
+    for round in 0..1200 {
+        let (d, lines) = walk(round % 33, &mut random);
+        let c = d << random.up_to(16 - bit_length(d) as u64);
+        let (w, recipe) = (1 + random.up_to(15), recipe_of(&lines));
+        let first = w as u32 + 1 + [0, random.up_to(9), random.up_to(2_000_000_000)][round % 3] as u32;
+        let x = literals(w, first, &mut random);
+        assert_listed_over(c, &x, first, &recipe, &written_over(c, &x, first, &recipe));
     }
 }

@@ -19,7 +19,7 @@ fn plan_in(c: u64, work_room: usize, recipe_room: usize) -> Result<usize, u8> {
 /// Writes in marked rooms; a refusal must leave every mark.
 fn write_in(c: u64, w: u64, recipe: &[u8], bit_room: usize, clause_room: usize) -> Result<second::Counts, u8> {
     let (mut bits, mut room) = (vec![MARK_WORD; bit_room], vec![MARK_WORD; clause_room]);
-    let answer = second::write(c, w, recipe, &mut bits, &mut room);
+    let answer = second::write_plain(c, w, recipe, &mut bits, &mut room);
     if answer.is_err() {
         assert!(bits.iter().chain(&room).all(|word| *word == MARK_WORD), "{c} {w}: a refusal changed a room");
     }
@@ -320,7 +320,7 @@ fn success_leaves_the_tails() {
         let lines = second::plan(c, &mut work, &mut recipe).unwrap();
         assert!(work[1 << (length - 1)..].iter().chain(&recipe[5 * lines..]).all(|byte| *byte == MARK));
         let (mut bits, mut room) = (vec![MARK_WORD; 40], vec![MARK_WORD; WORDS]);
-        let counts = second::write(c, 9, &recipe[..5 * lines], &mut bits, &mut room).unwrap();
+        let counts = second::write_plain(c, 9, &recipe[..5 * lines], &mut bits, &mut room).unwrap();
         assert!(bits[counts.bits..].iter().chain(&room[counts.words..]).all(|word| *word == MARK_WORD));
         assert!(!bits[..counts.bits].contains(&MARK_WORD) && !room[..counts.words].contains(&MARK_WORD));
     }

@@ -55,12 +55,12 @@ fn short_walks_by_trial() {
     for round in 0..4000u64 {
         let ((d, lines), w) = (walk((round % 3) as usize, &mut random), 1 + round % 2);
         let written = written(d, w, &recipe_of(&lines));
-        if written.counts.highest > 14 {
+        if written.highest() > 14 {
             continue;
         }
         tried += 1;
         for x in 0..1 << w {
-            let models = models(&written.room, w, written.counts.highest, x);
+            let models = models(&written.room, w, written.highest(), x);
             assert_eq!(models.len(), 1, "{d} {w} x = {x} {lines:?}");
             assert_eq!(reading_of_model(&written.bits, models[0]), d * x, "{d} {w} x = {x} {lines:?}");
         }

@@ -37,7 +37,25 @@ pub struct Written {
 
 pub fn written(c: u64, w: u64, recipe: &[u8]) -> Written {
     let (mut bits, mut room) = (vec![0; 32], vec![0; WORDS]);
-    let counts = second::write(c, w, recipe, &mut bits, &mut room).unwrap_or_else(|number| panic!("{c} {w}: {number}"));
+    let answer = second::write_plain(c, w, recipe, &mut bits, &mut room);
+    let counts = answer.unwrap_or_else(|number| panic!("{c} {w}: {number}"));
+    bits.truncate(counts.bits);
+    room.truncate(counts.words);
+    Written { w, counts, bits, room }
+}
+
+impl Written {
+    /// The highest variable: the one before the next free number.
+    pub fn highest(&self) -> u32 {
+        self.counts.next - 1
+    }
+}
+
+/// The rooms after a success over given literals, and the counts.
+pub fn written_over(c: u64, x: &[i32], first: u32, recipe: &[u8]) -> Written {
+    let (w, mut bits, mut room) = (x.len() as u64, vec![0; 32], vec![0; WORDS]);
+    let answer = second::write(c, w, x, first, recipe, &mut bits, &mut room);
+    let counts = answer.unwrap_or_else(|number| panic!("{c} {x:?} {first}: {number}"));
     bits.truncate(counts.bits);
     room.truncate(counts.words);
     Written { w, counts, bits, room }
@@ -61,7 +79,7 @@ pub fn clauses(room: &[i32]) -> impl Iterator<Item = &[i32]> {
 }
 
 /// Bit v - 1 of an assignment is the value of variable v.
-fn holds(literal: i32, assignment: u64) -> bool {
+pub fn holds(literal: i32, assignment: u64) -> bool {
     let value = assignment >> (literal.unsigned_abs() - 1) & 1 == 1;
     value == (literal > 0)
 }
@@ -149,7 +167,7 @@ pub fn propagate(room: &[i32], w: u64, highest: u32, x: u64) -> Result<Propagate
 /// clause is falsified, and y reads the product.
 pub fn assert_propagates(c: u64, written: &Written, x: u64) {
     let Written { w, counts, bits, room } = written;
-    let found = propagate(room, *w, counts.highest, x).unwrap_or_else(|why| panic!("{c} {w} x = {x}: {why}"));
+    let found = propagate(room, *w, counts.next - 1, x).unwrap_or_else(|why| panic!("{c} {w} x = {x}: {why}"));
     let whole = clauses(room).all(|clause| clause.iter().any(|literal| found.value(*literal) == Some(true)));
     assert!(whole, "{c} {w} x = {x}: a clause is not satisfied");
     assert_eq!(reading(bits, |literal| found.value(literal).unwrap()), c * x, "{c} {w} x = {x}");
@@ -159,7 +177,7 @@ pub fn assert_propagates(c: u64, written: &Written, x: u64) {
 pub fn assert_counted_off_the_room(written: &Written) {
     let Written { w, counts, room, .. } = written;
     assert_eq!(clauses(room).count(), counts.clauses);
-    let mut named = vec![false; counts.highest as usize + 1];
+    let mut named = vec![false; counts.next as usize];
     for word in room.iter().filter(|word| **word != 0) {
         named[word.unsigned_abs() as usize] = true;
     }
@@ -186,6 +204,18 @@ impl Random {
     pub fn up_to(&mut self, most: u64) -> u64 {
         (self.next() >> 16) % (most + 1)
     }
+}
+
+/// Literals of distinct variables below `first`, which is above `w`.
+pub fn literals(w: u64, first: u32, random: &mut Random) -> Vec<i32> {
+    let mut x: Vec<i32> = Vec::new();
+    while (x.len() as u64) < w {
+        let variable = 1 + random.up_to(u64::from(first) - 2) as i32;
+        if !x.iter().any(|literal| literal.abs() == variable) {
+            x.push(if random.up_to(1) == 0 { variable } else { -variable });
+        }
+    }
+    x
 }
 
 /// A line as kind, left, s, right, coefficient.
