@@ -125,60 +125,60 @@ agreed =
           ∷ record { c = 1; recipe = 32 ∷ 4 ∷ 0 ∷ 0 ∷ 4 ∷ []; number = 6 }
           ∷ [];
       written =
-          record { c = 1; w = 16; recipe = []; bits = 16; clauses = 0; number = 0; words-used = 0; clauses-written = 0; highest = 16; y = pos 1 ∷ pos 2 ∷ pos 3 ∷ pos 4 ∷ pos 5 ∷ pos 6 ∷ pos 7 ∷ pos 8 ∷ pos 9 ∷ pos 10 ∷ pos 11 ∷ pos 12 ∷ pos 13 ∷ pos 14 ∷ pos 15 ∷ pos 16 ∷ [] }
-          ∷ record { c = 1; w = 16; recipe = []; bits = 15; clauses = 0; number = 9; words-used = 0; clauses-written = 0; highest = 0; y = [] }
-          ∷ record { c = 3; w = 2; recipe = 32 ∷ 4 ∷ 0 ∷ 0 ∷ 3 ∷ []; bits = 4; clauses = 52; number = 0; words-used = 52; clauses-written = 14; highest = 6; y = pos 1 ∷ pos 3 ∷ pos 5 ∷ pos 6 ∷ [] }
-          ∷ record { c = 3; w = 2; recipe = 32 ∷ 4 ∷ 0 ∷ 0 ∷ 3 ∷ []; bits = 4; clauses = 51; number = 10; words-used = 0; clauses-written = 0; highest = 0; y = [] }
-          ∷ record { c = 3; w = 2; recipe = 32 ∷ 4 ∷ 0 ∷ 0 ∷ 3 ∷ []; bits = 3; clauses = 52; number = 9; words-used = 0; clauses-written = 0; highest = 0; y = [] }
-          ∷ record { c = 6; w = 2; recipe = 32 ∷ 4 ∷ 0 ∷ 0 ∷ 3 ∷ []; bits = 5; clauses = 52; number = 0; words-used = 52; clauses-written = 14; highest = 6; y = pos 0 ∷ pos 1 ∷ pos 3 ∷ pos 5 ∷ pos 6 ∷ [] }
-          ∷ record { c = 6; w = 2; recipe = 32 ∷ 4 ∷ 0 ∷ 0 ∷ 3 ∷ []; bits = 5; clauses = 51; number = 10; words-used = 0; clauses-written = 0; highest = 0; y = [] }
-          ∷ record { c = 6; w = 2; recipe = 32 ∷ 4 ∷ 0 ∷ 0 ∷ 3 ∷ []; bits = 4; clauses = 52; number = 9; words-used = 0; clauses-written = 0; highest = 0; y = [] }
-          ∷ record { c = 7; w = 3; recipe = 64 ∷ 12 ∷ 0 ∷ 0 ∷ 7 ∷ []; bits = 6; clauses = 120; number = 0; words-used = 120; clauses-written = 32; highest = 12; y = pos 1 ∷ pos 4 ∷ pos 6 ∷ pos 8 ∷ pos 10 ∷ pos 12 ∷ [] }
-          ∷ record { c = 7; w = 3; recipe = 64 ∷ 12 ∷ 0 ∷ 0 ∷ 7 ∷ []; bits = 6; clauses = 119; number = 10; words-used = 0; clauses-written = 0; highest = 0; y = [] }
-          ∷ record { c = 7; w = 3; recipe = 64 ∷ 12 ∷ 0 ∷ 0 ∷ 7 ∷ []; bits = 5; clauses = 120; number = 9; words-used = 0; clauses-written = 0; highest = 0; y = [] }
-          ∷ record { c = 11; w = 1; recipe = 32 ∷ 8 ∷ 0 ∷ 0 ∷ 5 ∷ 32 ∷ 132 ∷ 0 ∷ 0 ∷ 11 ∷ []; bits = 4; clauses = 0; number = 0; words-used = 0; clauses-written = 0; highest = 1; y = pos 1 ∷ pos 1 ∷ pos 0 ∷ pos 1 ∷ [] }
-          ∷ record { c = 11; w = 1; recipe = 32 ∷ 8 ∷ 0 ∷ 0 ∷ 5 ∷ 32 ∷ 132 ∷ 0 ∷ 0 ∷ 11 ∷ []; bits = 3; clauses = 0; number = 9; words-used = 0; clauses-written = 0; highest = 0; y = [] }
-          ∷ record { c = 12; w = 4; recipe = 32 ∷ 4 ∷ 0 ∷ 0 ∷ 3 ∷ []; bits = 8; clauses = 180; number = 0; words-used = 180; clauses-written = 42; highest = 12; y = pos 0 ∷ pos 0 ∷ pos 1 ∷ pos 5 ∷ pos 7 ∷ pos 9 ∷ pos 11 ∷ pos 12 ∷ [] }
-          ∷ record { c = 12; w = 4; recipe = 32 ∷ 4 ∷ 0 ∷ 0 ∷ 3 ∷ []; bits = 8; clauses = 179; number = 10; words-used = 0; clauses-written = 0; highest = 0; y = [] }
-          ∷ record { c = 12; w = 4; recipe = 32 ∷ 4 ∷ 0 ∷ 0 ∷ 3 ∷ []; bits = 7; clauses = 180; number = 9; words-used = 0; clauses-written = 0; highest = 0; y = [] }
-          ∷ record { c = 45; w = 2; recipe = 32 ∷ 8 ∷ 0 ∷ 0 ∷ 5 ∷ 32 ∷ 140 ∷ 16 ∷ 0 ∷ 45 ∷ []; bits = 8; clauses = 104; number = 0; words-used = 104; clauses-written = 28; highest = 10; y = pos 1 ∷ pos 2 ∷ pos 1 ∷ pos 3 ∷ pos 5 ∷ pos 7 ∷ pos 9 ∷ pos 10 ∷ [] }
-          ∷ record { c = 45; w = 2; recipe = 32 ∷ 8 ∷ 0 ∷ 0 ∷ 5 ∷ 32 ∷ 140 ∷ 16 ∷ 0 ∷ 45 ∷ []; bits = 8; clauses = 103; number = 10; words-used = 0; clauses-written = 0; highest = 0; y = [] }
-          ∷ record { c = 45; w = 2; recipe = 32 ∷ 8 ∷ 0 ∷ 0 ∷ 5 ∷ 32 ∷ 140 ∷ 16 ∷ 0 ∷ 45 ∷ []; bits = 7; clauses = 104; number = 9; words-used = 0; clauses-written = 0; highest = 0; y = [] }
-          ∷ record { c = 53; w = 3; recipe = 32 ∷ 4 ∷ 0 ∷ 0 ∷ 3 ∷ 32 ∷ 136 ∷ 0 ∷ 0 ∷ 13 ∷ 33 ∷ 8 ∷ 0 ∷ 0 ∷ 53 ∷ []; bits = 9; clauses = 408; number = 0; words-used = 408; clauses-written = 106; highest = 31; y = pos 1 ∷ pos 2 ∷ pos 19 ∷ pos 21 ∷ pos 23 ∷ pos 25 ∷ pos 27 ∷ pos 29 ∷ pos 31 ∷ [] }
-          ∷ record { c = 53; w = 3; recipe = 32 ∷ 4 ∷ 0 ∷ 0 ∷ 3 ∷ 32 ∷ 136 ∷ 0 ∷ 0 ∷ 13 ∷ 33 ∷ 8 ∷ 0 ∷ 0 ∷ 53 ∷ []; bits = 9; clauses = 407; number = 10; words-used = 0; clauses-written = 0; highest = 0; y = [] }
-          ∷ record { c = 53; w = 3; recipe = 32 ∷ 4 ∷ 0 ∷ 0 ∷ 3 ∷ 32 ∷ 136 ∷ 0 ∷ 0 ∷ 13 ∷ 33 ∷ 8 ∷ 0 ∷ 0 ∷ 53 ∷ []; bits = 8; clauses = 408; number = 9; words-used = 0; clauses-written = 0; highest = 0; y = [] }
-          ∷ record { c = 59; w = 2; recipe = 64 ∷ 16 ∷ 0 ∷ 0 ∷ 15 ∷ 64 ∷ 136 ∷ 0 ∷ 0 ∷ 59 ∷ []; bits = 8; clauses = 240; number = 0; words-used = 240; clauses-written = 64; highest = 20; y = pos 1 ∷ pos 8 ∷ pos 10 ∷ pos 12 ∷ pos 14 ∷ pos 16 ∷ pos 18 ∷ pos 20 ∷ [] }
-          ∷ record { c = 59; w = 2; recipe = 64 ∷ 16 ∷ 0 ∷ 0 ∷ 15 ∷ 64 ∷ 136 ∷ 0 ∷ 0 ∷ 59 ∷ []; bits = 8; clauses = 239; number = 10; words-used = 0; clauses-written = 0; highest = 0; y = [] }
-          ∷ record { c = 59; w = 2; recipe = 64 ∷ 16 ∷ 0 ∷ 0 ∷ 15 ∷ 64 ∷ 136 ∷ 0 ∷ 0 ∷ 59 ∷ []; bits = 7; clauses = 240; number = 9; words-used = 0; clauses-written = 0; highest = 0; y = [] }
-          ∷ record { c = 255; w = 4; recipe = 64 ∷ 32 ∷ 0 ∷ 0 ∷ 255 ∷ []; bits = 12; clauses = 172; number = 0; words-used = 172; clauses-written = 46; highest = 17; y = pos 1 ∷ pos 5 ∷ pos 7 ∷ pos 9 ∷ negsuc 9 ∷ negsuc 9 ∷ negsuc 9 ∷ negsuc 9 ∷ pos 11 ∷ pos 13 ∷ pos 15 ∷ pos 17 ∷ [] }
-          ∷ record { c = 255; w = 4; recipe = 64 ∷ 32 ∷ 0 ∷ 0 ∷ 255 ∷ []; bits = 12; clauses = 171; number = 10; words-used = 0; clauses-written = 0; highest = 0; y = [] }
-          ∷ record { c = 255; w = 4; recipe = 64 ∷ 32 ∷ 0 ∷ 0 ∷ 255 ∷ []; bits = 11; clauses = 172; number = 9; words-used = 0; clauses-written = 0; highest = 0; y = [] }
-          ∷ record { c = 21845; w = 5; recipe = 32 ∷ 8 ∷ 0 ∷ 0 ∷ 5 ∷ 32 ∷ 144 ∷ 16 ∷ 0 ∷ 85 ∷ 33 ∷ 32 ∷ 32 ∷ 85 ∷ 85 ∷ []; bits = 20; clauses = 934; number = 0; words-used = 934; clauses-written = 225; highest = 53; y = pos 1 ∷ pos 2 ∷ pos 6 ∷ pos 8 ∷ pos 16 ∷ pos 18 ∷ pos 20 ∷ pos 22 ∷ pos 31 ∷ pos 33 ∷ pos 35 ∷ pos 37 ∷ pos 39 ∷ pos 41 ∷ pos 43 ∷ pos 45 ∷ pos 47 ∷ pos 49 ∷ pos 51 ∷ pos 53 ∷ [] }
-          ∷ record { c = 21845; w = 5; recipe = 32 ∷ 8 ∷ 0 ∷ 0 ∷ 5 ∷ 32 ∷ 144 ∷ 16 ∷ 0 ∷ 85 ∷ 33 ∷ 32 ∷ 32 ∷ 85 ∷ 85 ∷ []; bits = 20; clauses = 933; number = 10; words-used = 0; clauses-written = 0; highest = 0; y = [] }
-          ∷ record { c = 21845; w = 5; recipe = 32 ∷ 8 ∷ 0 ∷ 0 ∷ 5 ∷ 32 ∷ 144 ∷ 16 ∷ 0 ∷ 85 ∷ 33 ∷ 32 ∷ 32 ∷ 85 ∷ 85 ∷ []; bits = 19; clauses = 934; number = 9; words-used = 0; clauses-written = 0; highest = 0; y = [] }
-          ∷ record { c = 65535; w = 3; recipe = 64 ∷ 64 ∷ 0 ∷ 255 ∷ 255 ∷ []; bits = 19; clauses = 120; number = 0; words-used = 120; clauses-written = 32; highest = 12; y = pos 1 ∷ pos 4 ∷ pos 6 ∷ negsuc 6 ∷ negsuc 6 ∷ negsuc 6 ∷ negsuc 6 ∷ negsuc 6 ∷ negsuc 6 ∷ negsuc 6 ∷ negsuc 6 ∷ negsuc 6 ∷ negsuc 6 ∷ negsuc 6 ∷ negsuc 6 ∷ negsuc 6 ∷ pos 8 ∷ pos 10 ∷ pos 12 ∷ [] }
-          ∷ record { c = 65535; w = 3; recipe = 64 ∷ 64 ∷ 0 ∷ 255 ∷ 255 ∷ []; bits = 19; clauses = 119; number = 10; words-used = 0; clauses-written = 0; highest = 0; y = [] }
-          ∷ record { c = 65535; w = 3; recipe = 64 ∷ 64 ∷ 0 ∷ 255 ∷ 255 ∷ []; bits = 18; clauses = 120; number = 9; words-used = 0; clauses-written = 0; highest = 0; y = [] }
-          ∷ record { c = 59; w = 2; recipe = 64 ∷ 24 ∷ 0 ∷ 0 ∷ 63 ∷ 96 ∷ 136 ∷ 0 ∷ 0 ∷ 59 ∷ []; bits = 8; clauses = 252; number = 0; words-used = 252; clauses-written = 64; highest = 18; y = pos 1 ∷ pos 3 ∷ pos 8 ∷ pos 10 ∷ pos 12 ∷ pos 14 ∷ pos 16 ∷ pos 18 ∷ [] }
-          ∷ record { c = 59; w = 2; recipe = 64 ∷ 24 ∷ 0 ∷ 0 ∷ 63 ∷ 96 ∷ 136 ∷ 0 ∷ 0 ∷ 59 ∷ []; bits = 8; clauses = 251; number = 10; words-used = 0; clauses-written = 0; highest = 0; y = [] }
-          ∷ record { c = 59; w = 2; recipe = 64 ∷ 24 ∷ 0 ∷ 0 ∷ 63 ∷ 96 ∷ 136 ∷ 0 ∷ 0 ∷ 59 ∷ []; bits = 7; clauses = 252; number = 9; words-used = 0; clauses-written = 0; highest = 0; y = [] }
-          ∷ record { c = 5; w = 3; recipe = 32 ∷ 4 ∷ 0 ∷ 0 ∷ 3 ∷ 64 ∷ 132 ∷ 0 ∷ 0 ∷ 5 ∷ []; bits = 6; clauses = 312; number = 0; words-used = 312; clauses-written = 74; highest = 18; y = pos 1 ∷ pos 10 ∷ pos 12 ∷ pos 14 ∷ pos 16 ∷ pos 18 ∷ [] }
-          ∷ record { c = 5; w = 3; recipe = 32 ∷ 4 ∷ 0 ∷ 0 ∷ 3 ∷ 64 ∷ 132 ∷ 0 ∷ 0 ∷ 5 ∷ []; bits = 6; clauses = 311; number = 10; words-used = 0; clauses-written = 0; highest = 0; y = [] }
-          ∷ record { c = 5; w = 3; recipe = 32 ∷ 4 ∷ 0 ∷ 0 ∷ 3 ∷ 64 ∷ 132 ∷ 0 ∷ 0 ∷ 5 ∷ []; bits = 5; clauses = 312; number = 9; words-used = 0; clauses-written = 0; highest = 0; y = [] }
-          ∷ record { c = 3; w = 2; recipe = 32 ∷ 8 ∷ 0 ∷ 0 ∷ 5 ∷ 64 ∷ 8 ∷ 0 ∷ 0 ∷ 3 ∷ 32 ∷ 4 ∷ 0 ∷ 0 ∷ 3 ∷ []; bits = 4; clauses = 120; number = 0; words-used = 120; clauses-written = 32; highest = 11; y = pos 1 ∷ pos 8 ∷ pos 10 ∷ pos 11 ∷ [] }
-          ∷ record { c = 3; w = 2; recipe = 32 ∷ 8 ∷ 0 ∷ 0 ∷ 5 ∷ 64 ∷ 8 ∷ 0 ∷ 0 ∷ 3 ∷ 32 ∷ 4 ∷ 0 ∷ 0 ∷ 3 ∷ []; bits = 4; clauses = 119; number = 10; words-used = 0; clauses-written = 0; highest = 0; y = [] }
-          ∷ record { c = 3; w = 2; recipe = 32 ∷ 8 ∷ 0 ∷ 0 ∷ 5 ∷ 64 ∷ 8 ∷ 0 ∷ 0 ∷ 3 ∷ 32 ∷ 4 ∷ 0 ∷ 0 ∷ 3 ∷ []; bits = 3; clauses = 120; number = 9; words-used = 0; clauses-written = 0; highest = 0; y = [] }
-          ∷ record { c = 20; w = 1; recipe = 32 ∷ 8 ∷ 0 ∷ 0 ∷ 5 ∷ 96 ∷ 132 ∷ 0 ∷ 0 ∷ 3 ∷ 65 ∷ 4 ∷ 0 ∷ 0 ∷ 5 ∷ []; bits = 5; clauses = 42; number = 0; words-used = 42; clauses-written = 11; highest = 4; y = pos 0 ∷ pos 0 ∷ pos 1 ∷ pos 2 ∷ pos 4 ∷ [] }
-          ∷ record { c = 20; w = 1; recipe = 32 ∷ 8 ∷ 0 ∷ 0 ∷ 5 ∷ 96 ∷ 132 ∷ 0 ∷ 0 ∷ 3 ∷ 65 ∷ 4 ∷ 0 ∷ 0 ∷ 5 ∷ []; bits = 5; clauses = 41; number = 10; words-used = 0; clauses-written = 0; highest = 0; y = [] }
-          ∷ record { c = 20; w = 1; recipe = 32 ∷ 8 ∷ 0 ∷ 0 ∷ 5 ∷ 96 ∷ 132 ∷ 0 ∷ 0 ∷ 3 ∷ 65 ∷ 4 ∷ 0 ∷ 0 ∷ 5 ∷ []; bits = 4; clauses = 42; number = 9; words-used = 0; clauses-written = 0; highest = 0; y = [] }
-          ∷ record { c = 0; w = 0; recipe = 32 ∷ 4 ∷ 0 ∷ 0 ∷ 3 ∷ []; bits = 3; clauses = 51; number = 1; words-used = 0; clauses-written = 0; highest = 0; y = [] }
-          ∷ record { c = 65536; w = 3; recipe = 32 ∷ 4 ∷ 0 ∷ 0 ∷ 3 ∷ []; bits = 3; clauses = 51; number = 1; words-used = 0; clauses-written = 0; highest = 0; y = [] }
-          ∷ record { c = 3; w = 0; recipe = 32 ∷ 8 ∷ 0 ∷ 0 ∷ 5 ∷ []; bits = 3; clauses = 51; number = 2; words-used = 0; clauses-written = 0; highest = 0; y = [] }
-          ∷ record { c = 3; w = 17; recipe = 32 ∷ 8 ∷ 0 ∷ 0 ∷ 5 ∷ []; bits = 3; clauses = 51; number = 2; words-used = 0; clauses-written = 0; highest = 0; y = [] }
-          ∷ record { c = 3; w = 4294967295; recipe = 32 ∷ 4 ∷ 0 ∷ 0 ∷ 3 ∷ []; bits = 3; clauses = 51; number = 2; words-used = 0; clauses-written = 0; highest = 0; y = [] }
-          ∷ record { c = 5; w = 2; recipe = 32 ∷ 4 ∷ 0 ∷ 0 ∷ 3 ∷ []; bits = 3; clauses = 51; number = 8; words-used = 0; clauses-written = 0; highest = 0; y = [] }
-          ∷ record { c = 3; w = 2; recipe = 32 ∷ 4 ∷ 0 ∷ 0 ∷ 3 ∷ []; bits = 3; clauses = 51; number = 9; words-used = 0; clauses-written = 0; highest = 0; y = [] }
-          ∷ record { c = 3; w = 2; recipe = 160 ∷ 4 ∷ 0 ∷ 0 ∷ 3 ∷ []; bits = 3; clauses = 51; number = 4; words-used = 0; clauses-written = 0; highest = 0; y = [] }
+          record { c = 1; w = 16; recipe = []; bits = 16; clauses = 0; number = 0; words-used = 0; clauses-written = 0; next = 17; y = pos 1 ∷ pos 2 ∷ pos 3 ∷ pos 4 ∷ pos 5 ∷ pos 6 ∷ pos 7 ∷ pos 8 ∷ pos 9 ∷ pos 10 ∷ pos 11 ∷ pos 12 ∷ pos 13 ∷ pos 14 ∷ pos 15 ∷ pos 16 ∷ [] }
+          ∷ record { c = 1; w = 16; recipe = []; bits = 15; clauses = 0; number = 9; words-used = 0; clauses-written = 0; next = 0; y = [] }
+          ∷ record { c = 3; w = 2; recipe = 32 ∷ 4 ∷ 0 ∷ 0 ∷ 3 ∷ []; bits = 4; clauses = 52; number = 0; words-used = 52; clauses-written = 14; next = 7; y = pos 1 ∷ pos 3 ∷ pos 5 ∷ pos 6 ∷ [] }
+          ∷ record { c = 3; w = 2; recipe = 32 ∷ 4 ∷ 0 ∷ 0 ∷ 3 ∷ []; bits = 4; clauses = 51; number = 10; words-used = 0; clauses-written = 0; next = 0; y = [] }
+          ∷ record { c = 3; w = 2; recipe = 32 ∷ 4 ∷ 0 ∷ 0 ∷ 3 ∷ []; bits = 3; clauses = 52; number = 9; words-used = 0; clauses-written = 0; next = 0; y = [] }
+          ∷ record { c = 6; w = 2; recipe = 32 ∷ 4 ∷ 0 ∷ 0 ∷ 3 ∷ []; bits = 5; clauses = 52; number = 0; words-used = 52; clauses-written = 14; next = 7; y = pos 0 ∷ pos 1 ∷ pos 3 ∷ pos 5 ∷ pos 6 ∷ [] }
+          ∷ record { c = 6; w = 2; recipe = 32 ∷ 4 ∷ 0 ∷ 0 ∷ 3 ∷ []; bits = 5; clauses = 51; number = 10; words-used = 0; clauses-written = 0; next = 0; y = [] }
+          ∷ record { c = 6; w = 2; recipe = 32 ∷ 4 ∷ 0 ∷ 0 ∷ 3 ∷ []; bits = 4; clauses = 52; number = 9; words-used = 0; clauses-written = 0; next = 0; y = [] }
+          ∷ record { c = 7; w = 3; recipe = 64 ∷ 12 ∷ 0 ∷ 0 ∷ 7 ∷ []; bits = 6; clauses = 120; number = 0; words-used = 120; clauses-written = 32; next = 13; y = pos 1 ∷ pos 4 ∷ pos 6 ∷ pos 8 ∷ pos 10 ∷ pos 12 ∷ [] }
+          ∷ record { c = 7; w = 3; recipe = 64 ∷ 12 ∷ 0 ∷ 0 ∷ 7 ∷ []; bits = 6; clauses = 119; number = 10; words-used = 0; clauses-written = 0; next = 0; y = [] }
+          ∷ record { c = 7; w = 3; recipe = 64 ∷ 12 ∷ 0 ∷ 0 ∷ 7 ∷ []; bits = 5; clauses = 120; number = 9; words-used = 0; clauses-written = 0; next = 0; y = [] }
+          ∷ record { c = 11; w = 1; recipe = 32 ∷ 8 ∷ 0 ∷ 0 ∷ 5 ∷ 32 ∷ 132 ∷ 0 ∷ 0 ∷ 11 ∷ []; bits = 4; clauses = 0; number = 0; words-used = 0; clauses-written = 0; next = 2; y = pos 1 ∷ pos 1 ∷ pos 0 ∷ pos 1 ∷ [] }
+          ∷ record { c = 11; w = 1; recipe = 32 ∷ 8 ∷ 0 ∷ 0 ∷ 5 ∷ 32 ∷ 132 ∷ 0 ∷ 0 ∷ 11 ∷ []; bits = 3; clauses = 0; number = 9; words-used = 0; clauses-written = 0; next = 0; y = [] }
+          ∷ record { c = 12; w = 4; recipe = 32 ∷ 4 ∷ 0 ∷ 0 ∷ 3 ∷ []; bits = 8; clauses = 180; number = 0; words-used = 180; clauses-written = 42; next = 13; y = pos 0 ∷ pos 0 ∷ pos 1 ∷ pos 5 ∷ pos 7 ∷ pos 9 ∷ pos 11 ∷ pos 12 ∷ [] }
+          ∷ record { c = 12; w = 4; recipe = 32 ∷ 4 ∷ 0 ∷ 0 ∷ 3 ∷ []; bits = 8; clauses = 179; number = 10; words-used = 0; clauses-written = 0; next = 0; y = [] }
+          ∷ record { c = 12; w = 4; recipe = 32 ∷ 4 ∷ 0 ∷ 0 ∷ 3 ∷ []; bits = 7; clauses = 180; number = 9; words-used = 0; clauses-written = 0; next = 0; y = [] }
+          ∷ record { c = 45; w = 2; recipe = 32 ∷ 8 ∷ 0 ∷ 0 ∷ 5 ∷ 32 ∷ 140 ∷ 16 ∷ 0 ∷ 45 ∷ []; bits = 8; clauses = 104; number = 0; words-used = 104; clauses-written = 28; next = 11; y = pos 1 ∷ pos 2 ∷ pos 1 ∷ pos 3 ∷ pos 5 ∷ pos 7 ∷ pos 9 ∷ pos 10 ∷ [] }
+          ∷ record { c = 45; w = 2; recipe = 32 ∷ 8 ∷ 0 ∷ 0 ∷ 5 ∷ 32 ∷ 140 ∷ 16 ∷ 0 ∷ 45 ∷ []; bits = 8; clauses = 103; number = 10; words-used = 0; clauses-written = 0; next = 0; y = [] }
+          ∷ record { c = 45; w = 2; recipe = 32 ∷ 8 ∷ 0 ∷ 0 ∷ 5 ∷ 32 ∷ 140 ∷ 16 ∷ 0 ∷ 45 ∷ []; bits = 7; clauses = 104; number = 9; words-used = 0; clauses-written = 0; next = 0; y = [] }
+          ∷ record { c = 53; w = 3; recipe = 32 ∷ 4 ∷ 0 ∷ 0 ∷ 3 ∷ 32 ∷ 136 ∷ 0 ∷ 0 ∷ 13 ∷ 33 ∷ 8 ∷ 0 ∷ 0 ∷ 53 ∷ []; bits = 9; clauses = 408; number = 0; words-used = 408; clauses-written = 106; next = 32; y = pos 1 ∷ pos 2 ∷ pos 19 ∷ pos 21 ∷ pos 23 ∷ pos 25 ∷ pos 27 ∷ pos 29 ∷ pos 31 ∷ [] }
+          ∷ record { c = 53; w = 3; recipe = 32 ∷ 4 ∷ 0 ∷ 0 ∷ 3 ∷ 32 ∷ 136 ∷ 0 ∷ 0 ∷ 13 ∷ 33 ∷ 8 ∷ 0 ∷ 0 ∷ 53 ∷ []; bits = 9; clauses = 407; number = 10; words-used = 0; clauses-written = 0; next = 0; y = [] }
+          ∷ record { c = 53; w = 3; recipe = 32 ∷ 4 ∷ 0 ∷ 0 ∷ 3 ∷ 32 ∷ 136 ∷ 0 ∷ 0 ∷ 13 ∷ 33 ∷ 8 ∷ 0 ∷ 0 ∷ 53 ∷ []; bits = 8; clauses = 408; number = 9; words-used = 0; clauses-written = 0; next = 0; y = [] }
+          ∷ record { c = 59; w = 2; recipe = 64 ∷ 16 ∷ 0 ∷ 0 ∷ 15 ∷ 64 ∷ 136 ∷ 0 ∷ 0 ∷ 59 ∷ []; bits = 8; clauses = 240; number = 0; words-used = 240; clauses-written = 64; next = 21; y = pos 1 ∷ pos 8 ∷ pos 10 ∷ pos 12 ∷ pos 14 ∷ pos 16 ∷ pos 18 ∷ pos 20 ∷ [] }
+          ∷ record { c = 59; w = 2; recipe = 64 ∷ 16 ∷ 0 ∷ 0 ∷ 15 ∷ 64 ∷ 136 ∷ 0 ∷ 0 ∷ 59 ∷ []; bits = 8; clauses = 239; number = 10; words-used = 0; clauses-written = 0; next = 0; y = [] }
+          ∷ record { c = 59; w = 2; recipe = 64 ∷ 16 ∷ 0 ∷ 0 ∷ 15 ∷ 64 ∷ 136 ∷ 0 ∷ 0 ∷ 59 ∷ []; bits = 7; clauses = 240; number = 9; words-used = 0; clauses-written = 0; next = 0; y = [] }
+          ∷ record { c = 255; w = 4; recipe = 64 ∷ 32 ∷ 0 ∷ 0 ∷ 255 ∷ []; bits = 12; clauses = 172; number = 0; words-used = 172; clauses-written = 46; next = 18; y = pos 1 ∷ pos 5 ∷ pos 7 ∷ pos 9 ∷ negsuc 9 ∷ negsuc 9 ∷ negsuc 9 ∷ negsuc 9 ∷ pos 11 ∷ pos 13 ∷ pos 15 ∷ pos 17 ∷ [] }
+          ∷ record { c = 255; w = 4; recipe = 64 ∷ 32 ∷ 0 ∷ 0 ∷ 255 ∷ []; bits = 12; clauses = 171; number = 10; words-used = 0; clauses-written = 0; next = 0; y = [] }
+          ∷ record { c = 255; w = 4; recipe = 64 ∷ 32 ∷ 0 ∷ 0 ∷ 255 ∷ []; bits = 11; clauses = 172; number = 9; words-used = 0; clauses-written = 0; next = 0; y = [] }
+          ∷ record { c = 21845; w = 5; recipe = 32 ∷ 8 ∷ 0 ∷ 0 ∷ 5 ∷ 32 ∷ 144 ∷ 16 ∷ 0 ∷ 85 ∷ 33 ∷ 32 ∷ 32 ∷ 85 ∷ 85 ∷ []; bits = 20; clauses = 934; number = 0; words-used = 934; clauses-written = 225; next = 54; y = pos 1 ∷ pos 2 ∷ pos 6 ∷ pos 8 ∷ pos 16 ∷ pos 18 ∷ pos 20 ∷ pos 22 ∷ pos 31 ∷ pos 33 ∷ pos 35 ∷ pos 37 ∷ pos 39 ∷ pos 41 ∷ pos 43 ∷ pos 45 ∷ pos 47 ∷ pos 49 ∷ pos 51 ∷ pos 53 ∷ [] }
+          ∷ record { c = 21845; w = 5; recipe = 32 ∷ 8 ∷ 0 ∷ 0 ∷ 5 ∷ 32 ∷ 144 ∷ 16 ∷ 0 ∷ 85 ∷ 33 ∷ 32 ∷ 32 ∷ 85 ∷ 85 ∷ []; bits = 20; clauses = 933; number = 10; words-used = 0; clauses-written = 0; next = 0; y = [] }
+          ∷ record { c = 21845; w = 5; recipe = 32 ∷ 8 ∷ 0 ∷ 0 ∷ 5 ∷ 32 ∷ 144 ∷ 16 ∷ 0 ∷ 85 ∷ 33 ∷ 32 ∷ 32 ∷ 85 ∷ 85 ∷ []; bits = 19; clauses = 934; number = 9; words-used = 0; clauses-written = 0; next = 0; y = [] }
+          ∷ record { c = 65535; w = 3; recipe = 64 ∷ 64 ∷ 0 ∷ 255 ∷ 255 ∷ []; bits = 19; clauses = 120; number = 0; words-used = 120; clauses-written = 32; next = 13; y = pos 1 ∷ pos 4 ∷ pos 6 ∷ negsuc 6 ∷ negsuc 6 ∷ negsuc 6 ∷ negsuc 6 ∷ negsuc 6 ∷ negsuc 6 ∷ negsuc 6 ∷ negsuc 6 ∷ negsuc 6 ∷ negsuc 6 ∷ negsuc 6 ∷ negsuc 6 ∷ negsuc 6 ∷ pos 8 ∷ pos 10 ∷ pos 12 ∷ [] }
+          ∷ record { c = 65535; w = 3; recipe = 64 ∷ 64 ∷ 0 ∷ 255 ∷ 255 ∷ []; bits = 19; clauses = 119; number = 10; words-used = 0; clauses-written = 0; next = 0; y = [] }
+          ∷ record { c = 65535; w = 3; recipe = 64 ∷ 64 ∷ 0 ∷ 255 ∷ 255 ∷ []; bits = 18; clauses = 120; number = 9; words-used = 0; clauses-written = 0; next = 0; y = [] }
+          ∷ record { c = 59; w = 2; recipe = 64 ∷ 24 ∷ 0 ∷ 0 ∷ 63 ∷ 96 ∷ 136 ∷ 0 ∷ 0 ∷ 59 ∷ []; bits = 8; clauses = 252; number = 0; words-used = 252; clauses-written = 64; next = 19; y = pos 1 ∷ pos 3 ∷ pos 8 ∷ pos 10 ∷ pos 12 ∷ pos 14 ∷ pos 16 ∷ pos 18 ∷ [] }
+          ∷ record { c = 59; w = 2; recipe = 64 ∷ 24 ∷ 0 ∷ 0 ∷ 63 ∷ 96 ∷ 136 ∷ 0 ∷ 0 ∷ 59 ∷ []; bits = 8; clauses = 251; number = 10; words-used = 0; clauses-written = 0; next = 0; y = [] }
+          ∷ record { c = 59; w = 2; recipe = 64 ∷ 24 ∷ 0 ∷ 0 ∷ 63 ∷ 96 ∷ 136 ∷ 0 ∷ 0 ∷ 59 ∷ []; bits = 7; clauses = 252; number = 9; words-used = 0; clauses-written = 0; next = 0; y = [] }
+          ∷ record { c = 5; w = 3; recipe = 32 ∷ 4 ∷ 0 ∷ 0 ∷ 3 ∷ 64 ∷ 132 ∷ 0 ∷ 0 ∷ 5 ∷ []; bits = 6; clauses = 312; number = 0; words-used = 312; clauses-written = 74; next = 19; y = pos 1 ∷ pos 10 ∷ pos 12 ∷ pos 14 ∷ pos 16 ∷ pos 18 ∷ [] }
+          ∷ record { c = 5; w = 3; recipe = 32 ∷ 4 ∷ 0 ∷ 0 ∷ 3 ∷ 64 ∷ 132 ∷ 0 ∷ 0 ∷ 5 ∷ []; bits = 6; clauses = 311; number = 10; words-used = 0; clauses-written = 0; next = 0; y = [] }
+          ∷ record { c = 5; w = 3; recipe = 32 ∷ 4 ∷ 0 ∷ 0 ∷ 3 ∷ 64 ∷ 132 ∷ 0 ∷ 0 ∷ 5 ∷ []; bits = 5; clauses = 312; number = 9; words-used = 0; clauses-written = 0; next = 0; y = [] }
+          ∷ record { c = 3; w = 2; recipe = 32 ∷ 8 ∷ 0 ∷ 0 ∷ 5 ∷ 64 ∷ 8 ∷ 0 ∷ 0 ∷ 3 ∷ 32 ∷ 4 ∷ 0 ∷ 0 ∷ 3 ∷ []; bits = 4; clauses = 120; number = 0; words-used = 120; clauses-written = 32; next = 12; y = pos 1 ∷ pos 8 ∷ pos 10 ∷ pos 11 ∷ [] }
+          ∷ record { c = 3; w = 2; recipe = 32 ∷ 8 ∷ 0 ∷ 0 ∷ 5 ∷ 64 ∷ 8 ∷ 0 ∷ 0 ∷ 3 ∷ 32 ∷ 4 ∷ 0 ∷ 0 ∷ 3 ∷ []; bits = 4; clauses = 119; number = 10; words-used = 0; clauses-written = 0; next = 0; y = [] }
+          ∷ record { c = 3; w = 2; recipe = 32 ∷ 8 ∷ 0 ∷ 0 ∷ 5 ∷ 64 ∷ 8 ∷ 0 ∷ 0 ∷ 3 ∷ 32 ∷ 4 ∷ 0 ∷ 0 ∷ 3 ∷ []; bits = 3; clauses = 120; number = 9; words-used = 0; clauses-written = 0; next = 0; y = [] }
+          ∷ record { c = 20; w = 1; recipe = 32 ∷ 8 ∷ 0 ∷ 0 ∷ 5 ∷ 96 ∷ 132 ∷ 0 ∷ 0 ∷ 3 ∷ 65 ∷ 4 ∷ 0 ∷ 0 ∷ 5 ∷ []; bits = 5; clauses = 42; number = 0; words-used = 42; clauses-written = 11; next = 5; y = pos 0 ∷ pos 0 ∷ pos 1 ∷ pos 2 ∷ pos 4 ∷ [] }
+          ∷ record { c = 20; w = 1; recipe = 32 ∷ 8 ∷ 0 ∷ 0 ∷ 5 ∷ 96 ∷ 132 ∷ 0 ∷ 0 ∷ 3 ∷ 65 ∷ 4 ∷ 0 ∷ 0 ∷ 5 ∷ []; bits = 5; clauses = 41; number = 10; words-used = 0; clauses-written = 0; next = 0; y = [] }
+          ∷ record { c = 20; w = 1; recipe = 32 ∷ 8 ∷ 0 ∷ 0 ∷ 5 ∷ 96 ∷ 132 ∷ 0 ∷ 0 ∷ 3 ∷ 65 ∷ 4 ∷ 0 ∷ 0 ∷ 5 ∷ []; bits = 4; clauses = 42; number = 9; words-used = 0; clauses-written = 0; next = 0; y = [] }
+          ∷ record { c = 0; w = 0; recipe = 32 ∷ 4 ∷ 0 ∷ 0 ∷ 3 ∷ []; bits = 3; clauses = 51; number = 1; words-used = 0; clauses-written = 0; next = 0; y = [] }
+          ∷ record { c = 65536; w = 3; recipe = 32 ∷ 4 ∷ 0 ∷ 0 ∷ 3 ∷ []; bits = 3; clauses = 51; number = 1; words-used = 0; clauses-written = 0; next = 0; y = [] }
+          ∷ record { c = 3; w = 0; recipe = 32 ∷ 8 ∷ 0 ∷ 0 ∷ 5 ∷ []; bits = 3; clauses = 51; number = 2; words-used = 0; clauses-written = 0; next = 0; y = [] }
+          ∷ record { c = 3; w = 17; recipe = 32 ∷ 8 ∷ 0 ∷ 0 ∷ 5 ∷ []; bits = 3; clauses = 51; number = 2; words-used = 0; clauses-written = 0; next = 0; y = [] }
+          ∷ record { c = 3; w = 4294967295; recipe = 32 ∷ 4 ∷ 0 ∷ 0 ∷ 3 ∷ []; bits = 3; clauses = 51; number = 2; words-used = 0; clauses-written = 0; next = 0; y = [] }
+          ∷ record { c = 5; w = 2; recipe = 32 ∷ 4 ∷ 0 ∷ 0 ∷ 3 ∷ []; bits = 3; clauses = 51; number = 8; words-used = 0; clauses-written = 0; next = 0; y = [] }
+          ∷ record { c = 3; w = 2; recipe = 32 ∷ 4 ∷ 0 ∷ 0 ∷ 3 ∷ []; bits = 3; clauses = 51; number = 9; words-used = 0; clauses-written = 0; next = 0; y = [] }
+          ∷ record { c = 3; w = 2; recipe = 160 ∷ 4 ∷ 0 ∷ 0 ∷ 3 ∷ []; bits = 3; clauses = 51; number = 4; words-used = 0; clauses-written = 0; next = 0; y = [] }
           ∷ [];
       write-rooms =
           record { c = 1; w = 16; recipe = []; bits = 18; clauses = 3; bit-room = pos 1 ∷ pos 2 ∷ pos 3 ∷ pos 4 ∷ pos 5 ∷ pos 6 ∷ pos 7 ∷ pos 8 ∷ pos 9 ∷ pos 10 ∷ pos 11 ∷ pos 12 ∷ pos 13 ∷ pos 14 ∷ pos 15 ∷ pos 16 ∷ pos 7 ∷ pos 7 ∷ []; clause-room = pos 7 ∷ pos 7 ∷ pos 7 ∷ [] }
@@ -198,6 +198,67 @@ agreed =
           ∷ record { c = 20; w = 1; recipe = 32 ∷ 8 ∷ 0 ∷ 0 ∷ 5 ∷ 96 ∷ 132 ∷ 0 ∷ 0 ∷ 3 ∷ 65 ∷ 4 ∷ 0 ∷ 0 ∷ 5 ∷ []; bits = 7; clauses = 45; bit-room = pos 0 ∷ pos 0 ∷ pos 1 ∷ pos 2 ∷ pos 4 ∷ pos 7 ∷ pos 7 ∷ []; clause-room = pos 1 ∷ negsuc 0 ∷ pos 2 ∷ pos 0 ∷ pos 1 ∷ pos 1 ∷ negsuc 1 ∷ pos 0 ∷ negsuc 0 ∷ negsuc 0 ∷ negsuc 1 ∷ pos 0 ∷ negsuc 0 ∷ pos 1 ∷ pos 2 ∷ pos 0 ∷ negsuc 0 ∷ pos 3 ∷ pos 0 ∷ pos 1 ∷ pos 3 ∷ pos 0 ∷ pos 1 ∷ negsuc 0 ∷ negsuc 2 ∷ pos 0 ∷ pos 1 ∷ pos 3 ∷ pos 4 ∷ pos 0 ∷ pos 1 ∷ negsuc 2 ∷ negsuc 3 ∷ pos 0 ∷ negsuc 0 ∷ pos 3 ∷ negsuc 3 ∷ pos 0 ∷ negsuc 0 ∷ negsuc 2 ∷ pos 4 ∷ pos 0 ∷ pos 7 ∷ pos 7 ∷ pos 7 ∷ [] }
           ∷ record { c = 3; w = 2; recipe = 32 ∷ 4 ∷ 0 ∷ 0 ∷ 3 ∷ []; bits = 4; clauses = 5; bit-room = pos 7 ∷ pos 7 ∷ pos 7 ∷ pos 7 ∷ []; clause-room = pos 7 ∷ pos 7 ∷ pos 7 ∷ pos 7 ∷ pos 7 ∷ [] }
           ∷ record { c = 3; w = 2; recipe = 32 ∷ 4 ∷ 0 ∷ 0 ∷ 3 ∷ []; bits = 3; clauses = 52; bit-room = pos 7 ∷ pos 7 ∷ pos 7 ∷ []; clause-room = pos 7 ∷ pos 7 ∷ pos 7 ∷ pos 7 ∷ pos 7 ∷ pos 7 ∷ pos 7 ∷ pos 7 ∷ pos 7 ∷ pos 7 ∷ pos 7 ∷ pos 7 ∷ pos 7 ∷ pos 7 ∷ pos 7 ∷ pos 7 ∷ pos 7 ∷ pos 7 ∷ pos 7 ∷ pos 7 ∷ pos 7 ∷ pos 7 ∷ pos 7 ∷ pos 7 ∷ pos 7 ∷ pos 7 ∷ pos 7 ∷ pos 7 ∷ pos 7 ∷ pos 7 ∷ pos 7 ∷ pos 7 ∷ pos 7 ∷ pos 7 ∷ pos 7 ∷ pos 7 ∷ pos 7 ∷ pos 7 ∷ pos 7 ∷ pos 7 ∷ pos 7 ∷ pos 7 ∷ pos 7 ∷ pos 7 ∷ pos 7 ∷ pos 7 ∷ pos 7 ∷ pos 7 ∷ pos 7 ∷ pos 7 ∷ pos 7 ∷ pos 7 ∷ [] }
+          ∷ [];
+      given =
+          record { x = pos 1 ∷ pos 2 ∷ []; first = 3; call = record { c = 3; w = 2; recipe = 32 ∷ 4 ∷ 0 ∷ 0 ∷ 3 ∷ []; bits = 4; clauses = 52; number = 0; words-used = 52; clauses-written = 14; next = 7; y = pos 1 ∷ pos 3 ∷ pos 5 ∷ pos 6 ∷ [] } }
+          ∷ record { x = negsuc 0 ∷ pos 2 ∷ []; first = 3; call = record { c = 3; w = 2; recipe = 32 ∷ 4 ∷ 0 ∷ 0 ∷ 3 ∷ []; bits = 4; clauses = 52; number = 0; words-used = 52; clauses-written = 14; next = 7; y = negsuc 0 ∷ pos 3 ∷ pos 5 ∷ pos 6 ∷ [] } }
+          ∷ record { x = negsuc 76 ∷ pos 5 ∷ []; first = 1000000; call = record { c = 3; w = 2; recipe = 32 ∷ 4 ∷ 0 ∷ 0 ∷ 3 ∷ []; bits = 4; clauses = 52; number = 0; words-used = 52; clauses-written = 14; next = 1000004; y = negsuc 76 ∷ pos 1000000 ∷ pos 1000002 ∷ pos 1000003 ∷ [] } }
+          ∷ record { x = negsuc 2 ∷ negsuc 899999 ∷ []; first = 900001; call = record { c = 6; w = 2; recipe = 32 ∷ 4 ∷ 0 ∷ 0 ∷ 3 ∷ []; bits = 5; clauses = 52; number = 0; words-used = 52; clauses-written = 14; next = 900005; y = pos 0 ∷ negsuc 2 ∷ pos 900001 ∷ pos 900003 ∷ pos 900004 ∷ [] } }
+          ∷ record { x = negsuc 1 ∷ pos 1 ∷ []; first = 3; call = record { c = 5; w = 2; recipe = 32 ∷ 8 ∷ 0 ∷ 0 ∷ 5 ∷ []; bits = 4; clauses = 0; number = 0; words-used = 0; clauses-written = 0; next = 3; y = negsuc 1 ∷ pos 1 ∷ negsuc 1 ∷ pos 1 ∷ [] } }
+          ∷ record { x = negsuc 3 ∷ []; first = 9; call = record { c = 7; w = 1; recipe = 64 ∷ 12 ∷ 0 ∷ 0 ∷ 7 ∷ []; bits = 3; clauses = 0; number = 0; words-used = 0; clauses-written = 0; next = 9; y = negsuc 3 ∷ negsuc 3 ∷ negsuc 3 ∷ [] } }
+          ∷ record { x = negsuc 2147483643 ∷ []; first = 2147483645; call = record { c = 5; w = 1; recipe = 32 ∷ 4 ∷ 0 ∷ 0 ∷ 3 ∷ 64 ∷ 132 ∷ 0 ∷ 0 ∷ 5 ∷ []; bits = 3; clauses = 42; number = 0; words-used = 42; clauses-written = 11; next = 2147483648; y = negsuc 2147483643 ∷ pos 2147483645 ∷ pos 2147483647 ∷ [] } }
+          ∷ record { x = pos 3 ∷ negsuc 0 ∷ []; first = 4; call = record { c = 59; w = 2; recipe = 64 ∷ 24 ∷ 0 ∷ 0 ∷ 63 ∷ 96 ∷ 136 ∷ 0 ∷ 0 ∷ 59 ∷ []; bits = 8; clauses = 252; number = 0; words-used = 252; clauses-written = 64; next = 20; y = pos 3 ∷ pos 4 ∷ pos 9 ∷ pos 11 ∷ pos 13 ∷ pos 15 ∷ pos 17 ∷ pos 19 ∷ [] } }
+          ∷ record { x = []; first = 9; call = record { c = 3; w = 2; recipe = 32 ∷ 4 ∷ 0 ∷ 0 ∷ 3 ∷ []; bits = 4; clauses = 52; number = 14; words-used = 0; clauses-written = 0; next = 0; y = [] } }
+          ∷ record { x = pos 1 ∷ []; first = 9; call = record { c = 3; w = 2; recipe = 32 ∷ 4 ∷ 0 ∷ 0 ∷ 3 ∷ []; bits = 4; clauses = 52; number = 14; words-used = 0; clauses-written = 0; next = 0; y = [] } }
+          ∷ record { x = pos 1 ∷ negsuc 1 ∷ pos 3 ∷ []; first = 9; call = record { c = 3; w = 2; recipe = 32 ∷ 4 ∷ 0 ∷ 0 ∷ 3 ∷ []; bits = 4; clauses = 52; number = 14; words-used = 0; clauses-written = 0; next = 0; y = [] } }
+          ∷ record { x = pos 0 ∷ negsuc 5 ∷ pos 7 ∷ pos 8 ∷ []; first = 9; call = record { c = 3; w = 4; recipe = 32 ∷ 4 ∷ 0 ∷ 0 ∷ 3 ∷ []; bits = 6; clauses = 180; number = 14; words-used = 0; clauses-written = 0; next = 0; y = [] } }
+          ∷ record { x = pos 5 ∷ pos 0 ∷ pos 7 ∷ pos 8 ∷ []; first = 9; call = record { c = 3; w = 4; recipe = 32 ∷ 4 ∷ 0 ∷ 0 ∷ 3 ∷ []; bits = 6; clauses = 180; number = 14; words-used = 0; clauses-written = 0; next = 0; y = [] } }
+          ∷ record { x = pos 5 ∷ negsuc 5 ∷ pos 0 ∷ pos 8 ∷ []; first = 9; call = record { c = 3; w = 4; recipe = 32 ∷ 4 ∷ 0 ∷ 0 ∷ 3 ∷ []; bits = 6; clauses = 180; number = 14; words-used = 0; clauses-written = 0; next = 0; y = [] } }
+          ∷ record { x = pos 5 ∷ negsuc 5 ∷ pos 7 ∷ pos 0 ∷ []; first = 9; call = record { c = 3; w = 4; recipe = 32 ∷ 4 ∷ 0 ∷ 0 ∷ 3 ∷ []; bits = 6; clauses = 180; number = 14; words-used = 0; clauses-written = 0; next = 0; y = [] } }
+          ∷ record { x = pos 9 ∷ pos 2 ∷ []; first = 9; call = record { c = 3; w = 2; recipe = 32 ∷ 4 ∷ 0 ∷ 0 ∷ 3 ∷ []; bits = 4; clauses = 52; number = 14; words-used = 0; clauses-written = 0; next = 0; y = [] } }
+          ∷ record { x = pos 8 ∷ negsuc 8 ∷ []; first = 9; call = record { c = 3; w = 2; recipe = 32 ∷ 4 ∷ 0 ∷ 0 ∷ 3 ∷ []; bits = 4; clauses = 52; number = 14; words-used = 0; clauses-written = 0; next = 0; y = [] } }
+          ∷ record { x = pos 1 ∷ []; first = 0; call = record { c = 1; w = 1; recipe = []; bits = 1; clauses = 0; number = 14; words-used = 0; clauses-written = 0; next = 0; y = [] } }
+          ∷ record { x = negsuc 0 ∷ []; first = 1; call = record { c = 1; w = 1; recipe = []; bits = 1; clauses = 0; number = 14; words-used = 0; clauses-written = 0; next = 0; y = [] } }
+          ∷ record { x = negsuc 0 ∷ []; first = 2; call = record { c = 1; w = 1; recipe = []; bits = 1; clauses = 0; number = 0; words-used = 0; clauses-written = 0; next = 2; y = negsuc 0 ∷ [] } }
+          ∷ record { x = pos 1 ∷ negsuc 1 ∷ []; first = 2; call = record { c = 1; w = 2; recipe = []; bits = 2; clauses = 0; number = 14; words-used = 0; clauses-written = 0; next = 0; y = [] } }
+          ∷ record { x = negsuc 2147483647 ∷ []; first = 2147483648; call = record { c = 1; w = 1; recipe = []; bits = 1; clauses = 0; number = 14; words-used = 0; clauses-written = 0; next = 0; y = [] } }
+          ∷ record { x = negsuc 2147483647 ∷ []; first = 2147483649; call = record { c = 1; w = 1; recipe = []; bits = 1; clauses = 0; number = 15; words-used = 0; clauses-written = 0; next = 0; y = [] } }
+          ∷ record { x = negsuc 1 ∷ negsuc 1 ∷ negsuc 5 ∷ pos 8 ∷ []; first = 12; call = record { c = 3; w = 4; recipe = 32 ∷ 4 ∷ 0 ∷ 0 ∷ 3 ∷ []; bits = 6; clauses = 180; number = 14; words-used = 0; clauses-written = 0; next = 0; y = [] } }
+          ∷ record { x = negsuc 1 ∷ pos 2 ∷ negsuc 5 ∷ pos 8 ∷ []; first = 12; call = record { c = 3; w = 4; recipe = 32 ∷ 4 ∷ 0 ∷ 0 ∷ 3 ∷ []; bits = 6; clauses = 180; number = 14; words-used = 0; clauses-written = 0; next = 0; y = [] } }
+          ∷ record { x = negsuc 1 ∷ pos 4 ∷ negsuc 1 ∷ pos 8 ∷ []; first = 12; call = record { c = 3; w = 4; recipe = 32 ∷ 4 ∷ 0 ∷ 0 ∷ 3 ∷ []; bits = 6; clauses = 180; number = 14; words-used = 0; clauses-written = 0; next = 0; y = [] } }
+          ∷ record { x = negsuc 1 ∷ pos 4 ∷ pos 2 ∷ pos 8 ∷ []; first = 12; call = record { c = 3; w = 4; recipe = 32 ∷ 4 ∷ 0 ∷ 0 ∷ 3 ∷ []; bits = 6; clauses = 180; number = 14; words-used = 0; clauses-written = 0; next = 0; y = [] } }
+          ∷ record { x = negsuc 1 ∷ pos 4 ∷ pos 4 ∷ pos 8 ∷ []; first = 12; call = record { c = 3; w = 4; recipe = 32 ∷ 4 ∷ 0 ∷ 0 ∷ 3 ∷ []; bits = 6; clauses = 180; number = 14; words-used = 0; clauses-written = 0; next = 0; y = [] } }
+          ∷ record { x = negsuc 1 ∷ pos 4 ∷ negsuc 3 ∷ pos 8 ∷ []; first = 12; call = record { c = 3; w = 4; recipe = 32 ∷ 4 ∷ 0 ∷ 0 ∷ 3 ∷ []; bits = 6; clauses = 180; number = 14; words-used = 0; clauses-written = 0; next = 0; y = [] } }
+          ∷ record { x = negsuc 1 ∷ pos 4 ∷ negsuc 5 ∷ negsuc 1 ∷ []; first = 12; call = record { c = 3; w = 4; recipe = 32 ∷ 4 ∷ 0 ∷ 0 ∷ 3 ∷ []; bits = 6; clauses = 180; number = 14; words-used = 0; clauses-written = 0; next = 0; y = [] } }
+          ∷ record { x = negsuc 1 ∷ pos 4 ∷ negsuc 5 ∷ pos 2 ∷ []; first = 12; call = record { c = 3; w = 4; recipe = 32 ∷ 4 ∷ 0 ∷ 0 ∷ 3 ∷ []; bits = 6; clauses = 180; number = 14; words-used = 0; clauses-written = 0; next = 0; y = [] } }
+          ∷ record { x = negsuc 1 ∷ pos 4 ∷ negsuc 5 ∷ pos 4 ∷ []; first = 12; call = record { c = 3; w = 4; recipe = 32 ∷ 4 ∷ 0 ∷ 0 ∷ 3 ∷ []; bits = 6; clauses = 180; number = 14; words-used = 0; clauses-written = 0; next = 0; y = [] } }
+          ∷ record { x = negsuc 1 ∷ pos 4 ∷ negsuc 5 ∷ negsuc 3 ∷ []; first = 12; call = record { c = 3; w = 4; recipe = 32 ∷ 4 ∷ 0 ∷ 0 ∷ 3 ∷ []; bits = 6; clauses = 180; number = 14; words-used = 0; clauses-written = 0; next = 0; y = [] } }
+          ∷ record { x = negsuc 1 ∷ pos 4 ∷ negsuc 5 ∷ negsuc 5 ∷ []; first = 12; call = record { c = 3; w = 4; recipe = 32 ∷ 4 ∷ 0 ∷ 0 ∷ 3 ∷ []; bits = 6; clauses = 180; number = 14; words-used = 0; clauses-written = 0; next = 0; y = [] } }
+          ∷ record { x = negsuc 1 ∷ pos 4 ∷ negsuc 5 ∷ pos 6 ∷ []; first = 12; call = record { c = 3; w = 4; recipe = 32 ∷ 4 ∷ 0 ∷ 0 ∷ 3 ∷ []; bits = 6; clauses = 180; number = 14; words-used = 0; clauses-written = 0; next = 0; y = [] } }
+          ∷ record { x = negsuc 4 ∷ pos 2147483643 ∷ []; first = 2147483644; call = record { c = 3; w = 2; recipe = 32 ∷ 4 ∷ 0 ∷ 0 ∷ 3 ∷ []; bits = 4; clauses = 52; number = 0; words-used = 52; clauses-written = 14; next = 2147483648; y = negsuc 4 ∷ pos 2147483644 ∷ pos 2147483646 ∷ pos 2147483647 ∷ [] } }
+          ∷ record { x = negsuc 4 ∷ pos 2147483643 ∷ []; first = 2147483645; call = record { c = 3; w = 2; recipe = 32 ∷ 4 ∷ 0 ∷ 0 ∷ 3 ∷ []; bits = 4; clauses = 52; number = 15; words-used = 0; clauses-written = 0; next = 0; y = [] } }
+          ∷ record { x = negsuc 4 ∷ pos 2147483647 ∷ []; first = 4294967295; call = record { c = 3; w = 2; recipe = 32 ∷ 4 ∷ 0 ∷ 0 ∷ 3 ∷ []; bits = 4; clauses = 52; number = 15; words-used = 0; clauses-written = 0; next = 0; y = [] } }
+          ∷ record { x = pos 2147483647 ∷ negsuc 4 ∷ pos 7 ∷ negsuc 2147483645 ∷ []; first = 2147483648; call = record { c = 1; w = 4; recipe = []; bits = 4; clauses = 0; number = 0; words-used = 0; clauses-written = 0; next = 2147483648; y = pos 2147483647 ∷ negsuc 4 ∷ pos 7 ∷ negsuc 2147483645 ∷ [] } }
+          ∷ record { x = pos 2147483647 ∷ negsuc 4 ∷ pos 7 ∷ negsuc 2147483645 ∷ []; first = 2147483649; call = record { c = 1; w = 4; recipe = []; bits = 4; clauses = 0; number = 15; words-used = 0; clauses-written = 0; next = 0; y = [] } }
+          ∷ record { x = pos 1 ∷ []; first = 4294967295; call = record { c = 1; w = 1; recipe = []; bits = 1; clauses = 0; number = 15; words-used = 0; clauses-written = 0; next = 0; y = [] } }
+          ∷ record { x = []; first = 1; call = record { c = 0; w = 0; recipe = []; bits = 9; clauses = 99; number = 1; words-used = 0; clauses-written = 0; next = 0; y = [] } }
+          ∷ record { x = pos 1 ∷ []; first = 1; call = record { c = 1; w = 0; recipe = []; bits = 9; clauses = 99; number = 2; words-used = 0; clauses-written = 0; next = 0; y = [] } }
+          ∷ record { x = pos 1 ∷ negsuc 0 ∷ []; first = 3; call = record { c = 3; w = 2; recipe = 32 ∷ 4 ∷ 0 ∷ 0 ∷ 5 ∷ 0 ∷ []; bits = 9; clauses = 99; number = 14; words-used = 0; clauses-written = 0; next = 0; y = [] } }
+          ∷ record { x = pos 1 ∷ negsuc 1 ∷ []; first = 3; call = record { c = 3; w = 2; recipe = 32 ∷ 4 ∷ 0 ∷ 0 ∷ 5 ∷ 0 ∷ []; bits = 9; clauses = 99; number = 3; words-used = 0; clauses-written = 0; next = 0; y = [] } }
+          ∷ record { x = pos 1 ∷ negsuc 1 ∷ []; first = 3; call = record { c = 3; w = 2; recipe = 32 ∷ 4 ∷ 0 ∷ 0 ∷ 5 ∷ []; bits = 9; clauses = 99; number = 7; words-used = 0; clauses-written = 0; next = 0; y = [] } }
+          ∷ record { x = pos 1 ∷ negsuc 1 ∷ []; first = 2147483648; call = record { c = 5; w = 2; recipe = 32 ∷ 4 ∷ 0 ∷ 0 ∷ 3 ∷ []; bits = 9; clauses = 99; number = 8; words-used = 0; clauses-written = 0; next = 0; y = [] } }
+          ∷ record { x = pos 1 ∷ negsuc 1 ∷ []; first = 2147483648; call = record { c = 3; w = 2; recipe = 32 ∷ 4 ∷ 0 ∷ 0 ∷ 3 ∷ []; bits = 3; clauses = 52; number = 15; words-used = 0; clauses-written = 0; next = 0; y = [] } }
+          ∷ record { x = pos 1 ∷ negsuc 1 ∷ []; first = 2147483648; call = record { c = 3; w = 2; recipe = 32 ∷ 4 ∷ 0 ∷ 0 ∷ 3 ∷ []; bits = 4; clauses = 51; number = 15; words-used = 0; clauses-written = 0; next = 0; y = [] } }
+          ∷ record { x = pos 1 ∷ negsuc 1 ∷ []; first = 3; call = record { c = 3; w = 2; recipe = 32 ∷ 4 ∷ 0 ∷ 0 ∷ 3 ∷ []; bits = 3; clauses = 51; number = 9; words-used = 0; clauses-written = 0; next = 0; y = [] } }
+          ∷ record { x = pos 1 ∷ negsuc 1 ∷ []; first = 3; call = record { c = 3; w = 2; recipe = 32 ∷ 4 ∷ 0 ∷ 0 ∷ 3 ∷ []; bits = 4; clauses = 51; number = 10; words-used = 0; clauses-written = 0; next = 0; y = [] } }
+          ∷ [];
+      given-rooms =
+          record { x = negsuc 0 ∷ pos 2 ∷ []; first = 3; call = record { c = 3; w = 2; recipe = 32 ∷ 4 ∷ 0 ∷ 0 ∷ 3 ∷ []; bits = 6; clauses = 55; bit-room = negsuc 0 ∷ pos 3 ∷ pos 5 ∷ pos 6 ∷ pos 7 ∷ pos 7 ∷ []; clause-room = negsuc 0 ∷ pos 2 ∷ negsuc 2 ∷ pos 0 ∷ negsuc 0 ∷ negsuc 1 ∷ pos 3 ∷ pos 0 ∷ pos 1 ∷ pos 2 ∷ pos 3 ∷ pos 0 ∷ pos 1 ∷ negsuc 1 ∷ negsuc 2 ∷ pos 0 ∷ negsuc 0 ∷ negsuc 3 ∷ pos 0 ∷ pos 2 ∷ negsuc 3 ∷ pos 0 ∷ pos 1 ∷ negsuc 1 ∷ pos 4 ∷ pos 0 ∷ pos 2 ∷ pos 4 ∷ negsuc 4 ∷ pos 0 ∷ pos 2 ∷ negsuc 3 ∷ pos 5 ∷ pos 0 ∷ negsuc 1 ∷ pos 4 ∷ pos 5 ∷ pos 0 ∷ negsuc 1 ∷ negsuc 3 ∷ negsuc 4 ∷ pos 0 ∷ pos 2 ∷ negsuc 5 ∷ pos 0 ∷ pos 4 ∷ negsuc 5 ∷ pos 0 ∷ negsuc 1 ∷ negsuc 3 ∷ pos 6 ∷ pos 0 ∷ pos 7 ∷ pos 7 ∷ pos 7 ∷ [] } }
+          ∷ record { x = negsuc 4 ∷ negsuc 2147483642 ∷ []; first = 2147483644; call = record { c = 3; w = 2; recipe = 32 ∷ 4 ∷ 0 ∷ 0 ∷ 3 ∷ []; bits = 6; clauses = 55; bit-room = negsuc 4 ∷ pos 2147483644 ∷ pos 2147483646 ∷ pos 2147483647 ∷ pos 7 ∷ pos 7 ∷ []; clause-room = negsuc 4 ∷ negsuc 2147483642 ∷ negsuc 2147483643 ∷ pos 0 ∷ negsuc 4 ∷ pos 2147483643 ∷ pos 2147483644 ∷ pos 0 ∷ pos 5 ∷ negsuc 2147483642 ∷ pos 2147483644 ∷ pos 0 ∷ pos 5 ∷ pos 2147483643 ∷ negsuc 2147483643 ∷ pos 0 ∷ negsuc 4 ∷ negsuc 2147483644 ∷ pos 0 ∷ negsuc 2147483642 ∷ negsuc 2147483644 ∷ pos 0 ∷ pos 5 ∷ pos 2147483643 ∷ pos 2147483645 ∷ pos 0 ∷ negsuc 2147483642 ∷ pos 2147483645 ∷ negsuc 2147483645 ∷ pos 0 ∷ negsuc 2147483642 ∷ negsuc 2147483644 ∷ pos 2147483646 ∷ pos 0 ∷ pos 2147483643 ∷ pos 2147483645 ∷ pos 2147483646 ∷ pos 0 ∷ pos 2147483643 ∷ negsuc 2147483644 ∷ negsuc 2147483645 ∷ pos 0 ∷ negsuc 2147483642 ∷ negsuc 2147483646 ∷ pos 0 ∷ pos 2147483645 ∷ negsuc 2147483646 ∷ pos 0 ∷ pos 2147483643 ∷ negsuc 2147483644 ∷ pos 2147483647 ∷ pos 0 ∷ pos 7 ∷ pos 7 ∷ pos 7 ∷ [] } }
+          ∷ record { x = pos 40 ∷ negsuc 16 ∷ []; first = 900; call = record { c = 6; w = 2; recipe = 32 ∷ 4 ∷ 0 ∷ 0 ∷ 3 ∷ []; bits = 7; clauses = 55; bit-room = pos 0 ∷ pos 40 ∷ pos 900 ∷ pos 902 ∷ pos 903 ∷ pos 7 ∷ pos 7 ∷ []; clause-room = pos 40 ∷ negsuc 16 ∷ negsuc 899 ∷ pos 0 ∷ pos 40 ∷ pos 17 ∷ pos 900 ∷ pos 0 ∷ negsuc 39 ∷ negsuc 16 ∷ pos 900 ∷ pos 0 ∷ negsuc 39 ∷ pos 17 ∷ negsuc 899 ∷ pos 0 ∷ pos 40 ∷ negsuc 900 ∷ pos 0 ∷ negsuc 16 ∷ negsuc 900 ∷ pos 0 ∷ negsuc 39 ∷ pos 17 ∷ pos 901 ∷ pos 0 ∷ negsuc 16 ∷ pos 901 ∷ negsuc 901 ∷ pos 0 ∷ negsuc 16 ∷ negsuc 900 ∷ pos 902 ∷ pos 0 ∷ pos 17 ∷ pos 901 ∷ pos 902 ∷ pos 0 ∷ pos 17 ∷ negsuc 900 ∷ negsuc 901 ∷ pos 0 ∷ negsuc 16 ∷ negsuc 902 ∷ pos 0 ∷ pos 901 ∷ negsuc 902 ∷ pos 0 ∷ pos 17 ∷ negsuc 900 ∷ pos 903 ∷ pos 0 ∷ pos 7 ∷ pos 7 ∷ pos 7 ∷ [] } }
+          ∷ record { x = negsuc 8 ∷ []; first = 12; call = record { c = 5; w = 1; recipe = 32 ∷ 4 ∷ 0 ∷ 0 ∷ 3 ∷ 64 ∷ 132 ∷ 0 ∷ 0 ∷ 5 ∷ []; bits = 5; clauses = 45; bit-room = negsuc 8 ∷ pos 12 ∷ pos 14 ∷ pos 7 ∷ pos 7 ∷ []; clause-room = negsuc 8 ∷ pos 9 ∷ pos 12 ∷ pos 0 ∷ negsuc 8 ∷ negsuc 8 ∷ negsuc 11 ∷ pos 0 ∷ pos 9 ∷ pos 9 ∷ negsuc 11 ∷ pos 0 ∷ pos 9 ∷ negsuc 8 ∷ pos 12 ∷ pos 0 ∷ pos 9 ∷ pos 13 ∷ pos 0 ∷ negsuc 8 ∷ pos 13 ∷ pos 0 ∷ negsuc 8 ∷ pos 9 ∷ negsuc 12 ∷ pos 0 ∷ negsuc 8 ∷ pos 13 ∷ pos 14 ∷ pos 0 ∷ negsuc 8 ∷ negsuc 12 ∷ negsuc 13 ∷ pos 0 ∷ pos 9 ∷ pos 13 ∷ negsuc 13 ∷ pos 0 ∷ pos 9 ∷ negsuc 12 ∷ pos 14 ∷ pos 0 ∷ pos 7 ∷ pos 7 ∷ pos 7 ∷ [] } }
+          ∷ record { x = negsuc 4 ∷ pos 4 ∷ []; first = 2147483645; call = record { c = 3; w = 2; recipe = 32 ∷ 4 ∷ 0 ∷ 0 ∷ 3 ∷ []; bits = 6; clauses = 55; bit-room = pos 7 ∷ pos 7 ∷ pos 7 ∷ pos 7 ∷ pos 7 ∷ pos 7 ∷ []; clause-room = pos 7 ∷ pos 7 ∷ pos 7 ∷ pos 7 ∷ pos 7 ∷ pos 7 ∷ pos 7 ∷ pos 7 ∷ pos 7 ∷ pos 7 ∷ pos 7 ∷ pos 7 ∷ pos 7 ∷ pos 7 ∷ pos 7 ∷ pos 7 ∷ pos 7 ∷ pos 7 ∷ pos 7 ∷ pos 7 ∷ pos 7 ∷ pos 7 ∷ pos 7 ∷ pos 7 ∷ pos 7 ∷ pos 7 ∷ pos 7 ∷ pos 7 ∷ pos 7 ∷ pos 7 ∷ pos 7 ∷ pos 7 ∷ pos 7 ∷ pos 7 ∷ pos 7 ∷ pos 7 ∷ pos 7 ∷ pos 7 ∷ pos 7 ∷ pos 7 ∷ pos 7 ∷ pos 7 ∷ pos 7 ∷ pos 7 ∷ pos 7 ∷ pos 7 ∷ pos 7 ∷ pos 7 ∷ pos 7 ∷ pos 7 ∷ pos 7 ∷ pos 7 ∷ pos 7 ∷ pos 7 ∷ pos 7 ∷ [] } }
+          ∷ record { x = negsuc 3 ∷ pos 4 ∷ []; first = 5; call = record { c = 3; w = 2; recipe = 32 ∷ 4 ∷ 0 ∷ 0 ∷ 3 ∷ []; bits = 6; clauses = 55; bit-room = pos 7 ∷ pos 7 ∷ pos 7 ∷ pos 7 ∷ pos 7 ∷ pos 7 ∷ []; clause-room = pos 7 ∷ pos 7 ∷ pos 7 ∷ pos 7 ∷ pos 7 ∷ pos 7 ∷ pos 7 ∷ pos 7 ∷ pos 7 ∷ pos 7 ∷ pos 7 ∷ pos 7 ∷ pos 7 ∷ pos 7 ∷ pos 7 ∷ pos 7 ∷ pos 7 ∷ pos 7 ∷ pos 7 ∷ pos 7 ∷ pos 7 ∷ pos 7 ∷ pos 7 ∷ pos 7 ∷ pos 7 ∷ pos 7 ∷ pos 7 ∷ pos 7 ∷ pos 7 ∷ pos 7 ∷ pos 7 ∷ pos 7 ∷ pos 7 ∷ pos 7 ∷ pos 7 ∷ pos 7 ∷ pos 7 ∷ pos 7 ∷ pos 7 ∷ pos 7 ∷ pos 7 ∷ pos 7 ∷ pos 7 ∷ pos 7 ∷ pos 7 ∷ pos 7 ∷ pos 7 ∷ pos 7 ∷ pos 7 ∷ pos 7 ∷ pos 7 ∷ pos 7 ∷ pos 7 ∷ pos 7 ∷ pos 7 ∷ [] } }
           ∷ [];
       printed =
           record { input = 51 ∷ 32 ∷ 50 ∷ 10 ∷ []; output = 99 ∷ 32 ∷ 109 ∷ 117 ∷ 108 ∷ 32 ∷ 51 ∷ 32 ∷ 50 ∷ 10 ∷ 99 ∷ 32 ∷ 121 ∷ 32 ∷ 49 ∷ 32 ∷ 51 ∷ 32 ∷ 53 ∷ 32 ∷ 54 ∷ 10 ∷ 112 ∷ 32 ∷ 99 ∷ 110 ∷ 102 ∷ 32 ∷ 54 ∷ 32 ∷ 49 ∷ 52 ∷ 10 ∷ 49 ∷ 32 ∷ 50 ∷ 32 ∷ 45 ∷ 51 ∷ 32 ∷ 48 ∷ 10 ∷ 49 ∷ 32 ∷ 45 ∷ 50 ∷ 32 ∷ 51 ∷ 32 ∷ 48 ∷ 10 ∷ 45 ∷ 49 ∷ 32 ∷ 50 ∷ 32 ∷ 51 ∷ 32 ∷ 48 ∷ 10 ∷ 45 ∷ 49 ∷ 32 ∷ 45 ∷ 50 ∷ 32 ∷ 45 ∷ 51 ∷ 32 ∷ 48 ∷ 10 ∷ 49 ∷ 32 ∷ 45 ∷ 52 ∷ 32 ∷ 48 ∷ 10 ∷ 50 ∷ 32 ∷ 45 ∷ 52 ∷ 32 ∷ 48 ∷ 10 ∷ 45 ∷ 49 ∷ 32 ∷ 45 ∷ 50 ∷ 32 ∷ 52 ∷ 32 ∷ 48 ∷ 10 ∷ 50 ∷ 32 ∷ 52 ∷ 32 ∷ 45 ∷ 53 ∷ 32 ∷ 48 ∷ 10 ∷ 50 ∷ 32 ∷ 45 ∷ 52 ∷ 32 ∷ 53 ∷ 32 ∷ 48 ∷ 10 ∷ 45 ∷ 50 ∷ 32 ∷ 52 ∷ 32 ∷ 53 ∷ 32 ∷ 48 ∷ 10 ∷ 45 ∷ 50 ∷ 32 ∷ 45 ∷ 52 ∷ 32 ∷ 45 ∷ 53 ∷ 32 ∷ 48 ∷ 10 ∷ 50 ∷ 32 ∷ 45 ∷ 54 ∷ 32 ∷ 48 ∷ 10 ∷ 52 ∷ 32 ∷ 45 ∷ 54 ∷ 32 ∷ 48 ∷ 10 ∷ 45 ∷ 50 ∷ 32 ∷ 45 ∷ 52 ∷ 32 ∷ 54 ∷ 32 ∷ 48 ∷ 10 ∷ [] }

@@ -31,7 +31,7 @@ pub record Checked : Type 0 where
   pub recipe : List ℕ
   pub number : ℕ
 
--- writing: the refusal's number, or 0, the counts, and y
+-- writing, x the variables 1 to w: the refusal's number, or 0, the counts, and y
 pub record Written : Type 0 where
   pub c : ℕ
   pub w : ℕ
@@ -41,7 +41,7 @@ pub record Written : Type 0 where
   pub number : ℕ
   pub words-used : ℕ
   pub clauses-written : ℕ
-  pub highest : ℕ
+  pub next : ℕ
   pub y : List ℤ
 
 -- both rooms of a writing at exit
@@ -53,6 +53,17 @@ pub record WriteRooms : Type 0 where
   pub clauses : ℕ
   pub bit-room : List ℤ
   pub clause-room : List ℤ
+
+-- the same over given literals, from a first free number on
+pub record Given : Type 0 where
+  pub x : List ℤ
+  pub first : ℕ
+  pub call : Written
+
+pub record GivenRooms : Type 0 where
+  pub x : List ℤ
+  pub first : ℕ
+  pub call : WriteRooms
 
 -- what the program prints for an input
 pub record Printed : Type 0 where
@@ -66,4 +77,6 @@ pub record Table : Type 0 where
   pub checked : List Checked
   pub written : List Written
   pub write-rooms : List WriteRooms
+  pub given : List Given
+  pub given-rooms : List GivenRooms
   pub printed : List Printed

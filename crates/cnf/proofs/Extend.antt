@@ -6,13 +6,15 @@
 -- Nothing here asks which function it is, or whether two literals of a clause name one variable.
 use Prim.Native.Nat.{ℕ, suc, _≤_, _<_, max}
 use mathlib.Core.Path.{_≡_, refl, sym, ap, ap₂, _∙_, subst}
-use mathlib.Core.Logic.{⊎-elim}
+use mathlib.Core.Logic.{_⊎_, inl, inr, ⊎-elim}
 use mathlib.Core.Bool.{Bool, true, false, not, _&&_, _||_, Bool·beq, false≢true, and-assoc}
 use mathlib.Core.List.{List, [], _∷_, _++_}
 use native.Mathlib.Decide.{ℕ-discrete}
 use native.Mathlib.Nat.{le-refl, le-suc, eq-or-lt-of-le, le-of-suc-le-suc, max-eq-left, max-eq-right}
 use native.Mathlib.Omega.{arith}
-use Rattle.cnf.specs.Clause.{Literal, Clause, Assignment, flips, value, holds, satisfies}
+use borrow.Author.Tests.{eqb-true, eqb-false}
+use lib.Dec.{eqb}
+use Rattle.cnf.specs.Clause.{Literal, Clause, Assignment, flips, value, holds, satisfies, clause-names, clauses-name}
 
 -- ---- clauses in a row
 
@@ -72,13 +74,17 @@ put-same n b α = go (ℕ-discrete n n)
     go (yes e) = refl
     go (no e) = absurd (e refl)
 
-put-other : (n : ℕ) (b : Bool) (α : Assignment) (v : ℕ) → v < n → α v ≡ put n b α v
+put-other : (n : ℕ) (b : Bool) (α : Assignment) (v : ℕ) → (v ≡ n → ⊥) → α v ≡ put n b α v
 unfolding put put-by
 put-other n b α v h = go (ℕ-discrete v n)
   where
     go : (d : Dec (v ≡ n)) → α v ≡ put-by d b (α v)
-    go (yes e) = absurd (omega arith)
+    go (yes e) = absurd (h e)
     go (no e) = refl
+
+not-itself : (b : Bool) → not b ≡ b → ⊥
+not-itself true e = false≢true e
+not-itself false e = false≢true (sym e)
 
 beq-true : (a b : Bool) → a ≡ b → Bool·beq a b ≡ true
 beq-true true true e = refl
@@ -238,7 +244,7 @@ module _ (Used : ℕ → Type 0) where
       says α s = eq-of-beq (α n) (f α) (sym (forced α) ∙ s)
 
       below : (b : Bool) (α : Assignment) → Agree n α (put n b α)
-      below b α v p q = put-other n b α v q
+      below b α v p q = put-other n b α v (λ e. omega arith)
 
       -- without a clause the other value of n would do as well
       some : cs ≡ [] → ⊥
@@ -246,8 +252,53 @@ module _ (Used : ℕ → Type 0) where
           let α : Assignment = λ v. false in
           let β : Assignment = put n (not (f α)) α in
           let h : satisfies β cs ≡ true = ap (satisfies β) e in
-          never (f α) (sym (put-same n (not (f α)) α) ∙ says β h ∙ sym (low α β (below (not (f α)) α)))
-        where
-          never : (b : Bool) → not b ≡ b → ⊥
-          never true e = false≢true e
-          never false e = false≢true (sym e)
+          not-itself (f α) (sym (put-same n (not (f α)) α) ∙ says β h ∙ sym (low α β (below (not (f α)) α)))
+
+-- ---- the variables that stand in clauses
+
+or-true : (a b : Bool) → a || b ≡ true → (a ≡ true) ⊎ (b ≡ true)
+or-true true b e = inl e
+or-true false b e = inr e
+
+or-false : (a b : Bool) → a || b ≡ false → (a ≡ false) × (b ≡ false)
+or-false true b e = absurd (false≢true (sym e))
+or-false false b e = (refl, e)
+
+module _ (Used : ℕ → Type 0) (n : ℕ) where
+  literal-used : (c : Clause) → Literals Used n c → (v : ℕ) → clause-names v c ≡ true → Used v × (v < n)
+  literal-used [] i v e = absurd (false≢true e)
+  literal-used (l ∷ c) i v e =
+      ⊎-elim (λ h. subst (λ (u : ℕ). Used u × (u < n)) (eqb-true (l .variable) v h) (i .0)) (λ h. literal-used c (i .1) v h) (or-true (eqb (l .variable) v) _ e)
+
+  -- a variable that stands in some clause may stand there
+  pub named-used : (cs : List Clause) → Names Used n cs → (v : ℕ) → clauses-name v cs ≡ true → Used v × (v < n)
+  named-used [] i v e = absurd (false≢true e)
+  named-used (c ∷ cs) i v e = ⊎-elim (λ h. literal-used c (i .0) v h) (λ h. named-used cs (i .1) v h) (or-true (clause-names v c) _ e)
+
+  -- a variable that stands in no clause is another one than each that does
+  literals-other : (c : Clause) → Literals Used n c → (v : ℕ) → clause-names v c ≡ false → Literals (λ u. u ≡ v → ⊥) n c
+  literals-other [] i v e = tt
+  literals-other (l ∷ c) i v e =
+      let o = or-false (eqb (l .variable) v) (clause-names v c) e in
+      ((eqb-false (l .variable) v (o .0), i .0 .1), literals-other c (i .1) v (o .1))
+
+  names-other : (cs : List Clause) → Names Used n cs → (v : ℕ) → clauses-name v cs ≡ false → Names (λ u. u ≡ v → ⊥) n cs
+  names-other [] i v e = tt
+  names-other (c ∷ cs) i v e =
+      let o = or-false (clause-names v c) (clauses-name v cs) e in
+      (literals-other c (i .0) v (o .0), names-other cs (i .1) v (o .1))
+
+-- each variable that is opened stands in some clause: with none of it both its values would do
+pub opened-named : (Used : ℕ → Type 0) {a b : ℕ} {cs : List Clause} → Extends Used a b cs → (v : ℕ) → Used v → a ≤ v → v < b → clauses-name v cs ≡ true
+opened-named Used {a} {b} {cs} x v u l h = go (clauses-name v cs) refl
+  where
+    go : (d : Bool) → clauses-name v cs ≡ d → d ≡ true
+    go true e = refl
+    go false e =
+        let α : Assignment = x .exists (λ k. false) .0 in
+        let s : satisfies α cs ≡ true = x .exists (λ k. false) .2 in
+        let β : Assignment = put v (not (α v)) α in
+        let t : satisfies β cs ≡ true =
+        sym (satisfies-local (λ k. k ≡ v → ⊥) cs (names-other Used b cs (x .names) v e) (λ k p q. put-other v (not (α v)) α k p)) ∙ s in
+        let q = x .unique α β (λ k p q. put-other v (not (α v)) α k (λ r. omega arith)) s t in
+        absurd (not-itself (α v) (sym (put-same v (not (α v)) α) ∙ sym (q v u h)))

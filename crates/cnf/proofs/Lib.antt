@@ -1,2 +1,3 @@
 pub mod Extend
 pub mod Words
+pub mod Sign

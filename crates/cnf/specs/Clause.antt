@@ -2,6 +2,7 @@
 use Prim.Native.Nat.{ℕ}
 use mathlib.Core.Bool.{Bool, true, false, not, _&&_, _||_}
 use mathlib.Core.List.{List, [], _∷_}
+use lib.Dec.{eqb}
 
 -- a variable's number, and whether it stands negated
 pub record Literal : Type 0 where
@@ -41,3 +42,14 @@ holds α (l ∷ c) = value α l || holds α c
 abbrev pub satisfies : Assignment → List Clause → Bool
 satisfies α [] = true
 satisfies α (c ∷ cs) = holds α c && satisfies α cs
+
+-- ---- the variables that clauses name
+
+abbrev pub clause-names : ℕ → Clause → Bool
+clause-names v [] = false
+clause-names v (l ∷ c) = eqb (l .variable) v || clause-names v c
+
+-- whether v stands in some clause
+abbrev pub clauses-name : ℕ → List Clause → Bool
+clauses-name v [] = false
+clauses-name v (c ∷ cs) = clause-names v c || clauses-name v cs

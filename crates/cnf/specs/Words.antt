@@ -1,8 +1,9 @@
 -- The words of a clause room and their DIMACS meaning.
 use Prim.Native.Nat.{ℕ, zero, suc, _<_, max}
-use mathlib.Core.Bool.{Bool, true, false}
+use mathlib.Core.Bool.{Bool, true, false, _||_}
 use mathlib.Core.List.{List, [], _∷_, _++_, map}
-use lib.IntN.{ℤ, pos, negsuc, negℤ}
+use lib.Dec.{eqb}
+use lib.IntN.{ℤ, pos, negsuc, natAbs, negℤ}
 use Rattle.cnf.specs.Clause.{Literal, Clause, Assignment, satisfies}
 
 -- the variables of DIMACS, where a word 0 closes a clause
@@ -40,10 +41,19 @@ clauses-of ws = clauses-from [] ws
 abbrev pub satisfies-words : Assignment → List ℤ → Bool
 satisfies-words α ws = satisfies α (clauses-of ws)
 
+-- the literal that a word is
+abbrev pub literal-of-word : ℤ → Literal
+literal-of-word (pos v) = record { variable = v; negated = false }
+literal-of-word (negsuc v) = record { variable = suc v; negated = true }
+
 -- the variable that a word names; 0 for a word that closes a clause
 abbrev pub named : ℤ → ℕ
-named (pos v) = v
-named (negsuc v) = suc v
+named w = natAbs w
+
+-- whether words name variable v
+abbrev pub names : ℕ → List ℤ → Bool
+names v [] = false
+names v (w ∷ ws) = eqb (named w) v || names v ws
 
 -- the highest variable that words name, and at least h
 abbrev pub highest-named : ℕ → List ℤ → ℕ

@@ -1,6 +1,6 @@
 -- The program's rooms are never too short for a planned recipe, so that refusals 3 to 12 do not come, and what is printed of planning's answer is
 -- document 01's file or the refusal 1 or 2. Assumes nothing.
-use Prim.Native.Nat.{ℕ, _+_, _-_, _*_, _/_, _^_, _≤_, _<_}
+use Prim.Native.Nat.{ℕ, suc, _+_, _-_, _*_, _/_, _^_, _≤_, _<_}
 use mathlib.Core.Path.{_≡_, sym, ap, _∙_, subst}
 use mathlib.Core.Bool.{true, false}
 use mathlib.Core.List.{List}
@@ -27,8 +27,8 @@ use Rattle.plan.proofs.Bytes.{bytes-length}
 use Rattle.plan.proofs.Exact.{planned-success, recipe-in-room}
 use Rattle.plan.proofs.Plans.{AsPlanned, refused-none, refused-large}
 use Rattle.product.specs.Lines.{columns}
-use Rattle.product.specs.Product.{product-of, clause-words}
-use Rattle.product.specs.Write.{not-a-width, y-length, write-answer}
+use Rattle.product.specs.Product.{plain-product-of, clause-words}
+use Rattle.product.specs.Write.{not-a-width, y-length, most-next, write-answer}
 use Rattle.product.specs.declared.Written.{Written}
 use Rattle.product.proofs.BitLengths.{columns-le}
 use Rattle.product.proofs.Success.{passes, passes-all}
@@ -38,7 +38,9 @@ use Rattle.wording.specs.Request.{asked}
 use Rattle.wording.specs.declared.Request.{Request}
 use Rattle.dimacs.specs.Steps.{answer-text, recipe-text, Planned-fits, planned-text}
 use Rattle.wording.specs.declared.Request.the-variants.{Asked}
-use Rattle.product.proofs.Bounds.{few-words}
+use Rattle.product.proofs.Bounds.{few-words, few-next}
+use Rattle.product.proofs.Given.{length-numbered, numbered-fit}
+use Rattle.product.specs.Bit.{numbered}
 
 -- ---- a recipe of at most 8 lines, none of more than 16 bits
 
@@ -52,17 +54,23 @@ module _ (c w : ℕ) (recipe : List ℕ) (s : Small-recipe c recipe) where
   unfolding columns
   y-fits h = omega (arith, columns-le w c 16 (omega (arith, s .right .most)))
 
-  words-fit : w ≤ 16 → length (clause-words (product-of c w recipe)) ≤ 16384
+  words-fit : w ≤ 16 → length (clause-words (plain-product-of c w recipe)) ≤ 16384
   words-fit h =
       let n = length recipe / 5 in
       let a : (16 + w) * n ≤ 32 * 8 = mul-le-mul {n₁ = 16 + w} {m₁ = n} {n₂ = 32} {m₂ = 8} (omega arith) (omega (arith, s .few)) in
-      omega (arith, few-words c w recipe 16 (s .bits))
+      omega (arith, few-words c (numbered 1 w) (suc w) recipe 16 (s .bits), ap (λ (k : ℕ). 64 * (16 + k) * n) (length-numbered 1 w))
 
-  pub file-printed : 0 < w → w ≤ 16 → recipe-text c w recipe ≡ product-text c w (product-of c w recipe)
+  next-fits : w ≤ 16 → plain-product-of c w recipe .next ≤ most-next
+  next-fits h =
+      let n = length recipe / 5 in
+      let a : (16 + w) * n ≤ 32 * 8 = mul-le-mul {n₁ = 16 + w} {m₁ = n} {n₂ = 32} {m₂ = 8} (omega arith) (omega (arith, s .few)) in
+      omega (arith, few-next c (numbered 1 w) (suc w) recipe 16 (s .bits), ap (λ (k : ℕ). 2 * (16 + k) * n) (length-numbered 1 w))
+
+  pub file-printed : 0 < w → w ≤ 16 → recipe-text c w recipe ≡ product-text c w (plain-product-of c w recipe)
   unfolding recipe-text answer-text
   file-printed p q =
-      let z = passes-all c w recipe 32 16384 (s .right) p q (y-fits q) (words-fit q) in
-      ap (λ (a : Written). answer-text a c w (product-of c w recipe)) (passes c w recipe 32 16384 z .is)
+      let z = passes-all c w (numbered 1 w) (suc w) recipe 32 16384 (s .right) p q (length-numbered 1 w) (numbered-fit w) (next-fits q) (y-fits q) (words-fit q) in
+      ap (λ (a : Written). answer-text a c w (plain-product-of c w recipe)) (passes c w (numbered 1 w) (suc w) recipe 32 16384 z .is)
 
   pub width-printed : not-a-width w ≡ true → recipe-text c w recipe ≡ refused-text (refusal-number Width)
   unfolding recipe-text answer-text write-answer

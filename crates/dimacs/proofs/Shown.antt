@@ -1,12 +1,15 @@
 -- What is printed of writing's answer and rooms is what document 01 prints of the recipe. Assumes nothing.
-use Prim.Native.Nat.{ℕ}
+use Prim.Native.Nat.{ℕ, suc, _-_}
 use mathlib.Core.Path.{_≡_, refl, ap, ap₂, _∙_, subst}
 use mathlib.Core.List.{List}
 use native.Mathlib.Omega.{arith}
 use lib.IntN.{ℤ}
 use lib.ListN.{length}
-use Rattle.product.specs.Product.{product-of, y-entries, clause-words}
-use Rattle.product.specs.Write.{written-number, words-used, clauses-written, highest-variable, bits-of-y, write-answer}
+use Rattle.product.specs.Product.{lines-of, product-of, plain-product-of, y-entries, clause-words}
+use Rattle.line.specs.Number.{twos}
+use Rattle.product.specs.Bit.{given, numbered}
+use Rattle.product.proofs.Nexts.{product-grows}
+use Rattle.product.specs.Write.{written-number, words-used, clauses-written, next-free, bits-of-y, write-answer}
 use Rattle.product.specs.Demand.{Result, words-at-exit, entries-at-exit}
 use Rattle.product.specs.declared.Written.{Written}
 use Rattle.product.specs.declared.Written.the-variants.{Clauses, Refused}
@@ -19,29 +22,33 @@ pub fits-as : {a b : Written} (bits words : ℕ) → a ≡ b → Written-fits a 
 fits-as bits words e f = subst (λ (a : Written). Written-fits a bits words) e f
 
 module _ (c w : ℕ) (recipe : List ℕ) (bits words : List ℤ) where
-  pub written-fits : (a : Written) (bits′ words′ : List ℤ) → Result c w recipe bits words a bits′ words′ → length bits′ ≡ length bits → length words′ ≡ length words
+  pub written-fits : (a : Written) (bits′ words′ : List ℤ) → Result c w (numbered 1 w) (suc w) recipe bits words a bits′ words′ → length bits′ ≡ length bits → length words′ ≡ length words
       → Written-fits a (length bits′) (length words′)
+  unfolding product-of
   written-fits (Refused x) bits′ words′ r hb hw = tt
   written-fits (Clauses k n v b) bits′ words′ r hb hw =
-      let s = success c w recipe bits words (Clauses k n v b) bits′ words′ r refl in
-      (omega (arith, ap bits-of-y (s .is), s .tests .bits-fit), omega (arith, ap words-used (s .is), s .tests .clauses-fit))
+      let s = success c w (numbered 1 w) (suc w) recipe bits words (Clauses k n v b) bits′ words′ r refl in (
+        omega (arith, ap bits-of-y (s .is), s .tests .bits-fit),
+        omega (arith, ap words-used (s .is), s .tests .clauses-fit),
+        omega (arith, ap next-free (s .is), product-grows (twos c) (lines-of recipe) (given (numbered 1 w)) (suc w)),
+      )
 
   -- the file, of the words and entries that stand in the rooms
-  file-shown : (a : Written) (bits′ words′ : List ℤ) → Result c w recipe bits words a bits′ words′ → written-number a ≡ 0
-      → file-text c w (entries-at-exit a bits′) (highest-variable a) (clauses-written a) (words-at-exit a words′) ≡ product-text c w (product-of c w recipe)
+  file-shown : (a : Written) (bits′ words′ : List ℤ) → Result c w (numbered 1 w) (suc w) recipe bits words a bits′ words′ → written-number a ≡ 0
+      → file-text c w (entries-at-exit a bits′) (next-free a - 1) (clauses-written a) (words-at-exit a words′) ≡ product-text c w (plain-product-of c w recipe)
   unfolding product-text
   file-shown a bits′ words′ r z =
-      let s = success c w recipe bits words a bits′ words′ r z in
-      ap₂ (λ (ys ws : List ℤ). file-text c w ys (highest-variable a) (clauses-written a) ws) (s .entries-are) (s .words-are)
-      ∙ ap₂ (λ (v n : ℕ). file-text c w (y-entries (product-of c w recipe)) v n (clause-words (product-of c w recipe))) (ap highest-variable (s .is)) (ap clauses-written (s .is))
+      let s = success c w (numbered 1 w) (suc w) recipe bits words a bits′ words′ r z in
+      ap₂ (λ (ys ws : List ℤ). file-text c w ys (next-free a - 1) (clauses-written a) ws) (s .entries-are) (s .words-are)
+      ∙ ap₂ (λ (v n : ℕ). file-text c w (y-entries (plain-product-of c w recipe)) (v - 1) n (clause-words (plain-product-of c w recipe))) (ap next-free (s .is)) (ap clauses-written (s .is))
 
-  pub written-shown : (a : Written) (bits′ words′ : List ℤ) → Result c w recipe bits words a bits′ words′ → length bits ≡ 32 → length words ≡ 16384
+  pub written-shown : (a : Written) (bits′ words′ : List ℤ) → Result c w (numbered 1 w) (suc w) recipe bits words a bits′ words′ → length bits ≡ 32 → length words ≡ 16384
       → written-text a c w bits′ words′ ≡ recipe-text c w recipe
   unfolding written-text answer-text recipe-text
   written-shown a bits′ words′ r hb hw =
-      let e : a ≡ write-answer c w recipe 32 16384 = r .answered ∙ answer-of c w recipe bits words ∙ ap₂ (write-answer c w recipe) hb hw in
-      shown a e r ∙ ap (λ (x : Written). answer-text x c w (product-of c w recipe)) e
+      let e : a ≡ write-answer c w (numbered 1 w) (suc w) recipe 32 16384 = r .answered ∙ answer-of c w (numbered 1 w) (suc w) recipe bits words ∙ ap₂ (write-answer c w (numbered 1 w) (suc w) recipe) hb hw in
+      shown a e r ∙ ap (λ (x : Written). answer-text x c w (plain-product-of c w recipe)) e
     where
-      shown : (a : Written) → a ≡ write-answer c w recipe 32 16384 → Result c w recipe bits words a bits′ words′ → written-text a c w bits′ words′ ≡ answer-text a c w (product-of c w recipe)
+      shown : (a : Written) → a ≡ write-answer c w (numbered 1 w) (suc w) recipe 32 16384 → Result c w (numbered 1 w) (suc w) recipe bits words a bits′ words′ → written-text a c w bits′ words′ ≡ answer-text a c w (plain-product-of c w recipe)
       shown (Refused x) e r = refl
       shown (Clauses k n v b) e r = file-shown (Clauses k n v b) bits′ words′ r refl

@@ -1,13 +1,14 @@
 -- What each step of the program prints, for what it gets from the step before: planning and writing answer with a refusal or with counts, and
 -- leave their bytes, entries and words in rooms of a fixed length.
-use Prim.Native.Nat.{ℕ, _*_, _≤_}
+use Prim.Native.Nat.{ℕ, suc, _-_, _*_, _≤_, _<_}
 use mathlib.Core.List.{List}
 use lib.IntN.{ℤ}
 use lib.ListN.{take}
 use Rattle.line.specs.Refusal.{refusal-number}
 use Rattle.plan.specs.declared.Planned.{Planned}
 use Rattle.plan.specs.declared.Planned.the-variants as plan
-use Rattle.product.specs.Product.{Product, product-of}
+use Rattle.product.specs.Product.{Product, plain-product-of}
+use Rattle.product.specs.Bit.{numbered}
 use Rattle.product.specs.Write.{write-answer}
 use Rattle.product.specs.declared.Written.{Written}
 use Rattle.product.specs.declared.Written.the-variants.{Clauses, Refused}
@@ -16,23 +17,23 @@ use Rattle.wording.specs.Print.{product-text}
 
 -- ---- writing
 
--- the counts are no more than the rooms' lengths
+-- the counts are no more than the rooms' lengths, and a number comes before the next free one
 abbrev pub Written-fits : Written → ℕ → ℕ → Type 0
-Written-fits (Clauses words clauses highest bits) bit-room clause-room = (bits ≤ bit-room) × (words ≤ clause-room)
+Written-fits (Clauses words clauses next bits) bit-room clause-room = (bits ≤ bit-room) × (words ≤ clause-room) × (0 < next)
 Written-fits (Refused x) bit-room clause-room = Unit {0}
 
 -- an answer and the two rooms at exit
 unfoldable pub written-text : Written → ℕ → ℕ → List ℤ → List ℤ → List ℕ
-written-text (Clauses words clauses highest bits) c w bit-room clause-room = file-text c w (take bits bit-room) highest clauses (take words clause-room)
+written-text (Clauses words clauses next bits) c w bit-room clause-room = file-text c w (take bits bit-room) (next - 1) clauses (take words clause-room)
 written-text (Refused x) c w bit-room clause-room = refused-text (refusal-number x)
 
 unfoldable pub answer-text : Written → ℕ → ℕ → Product → List ℕ
-answer-text (Clauses words clauses highest bits) c w p = product-text c w p
+answer-text (Clauses words clauses next bits) c w p = product-text c w p
 answer-text (Refused x) c w p = refused-text (refusal-number x)
 
 -- a recipe that is written into rooms of 32 entries and 16,384 words
 unfoldable pub recipe-text : ℕ → ℕ → List ℕ → List ℕ
-recipe-text c w recipe = answer-text (write-answer c w recipe 32 16384) c w (product-of c w recipe)
+recipe-text c w recipe = answer-text (write-answer c w (numbered 1 w) (suc w) recipe 32 16384) c w (plain-product-of c w recipe)
 
 -- ---- planning
 

@@ -42,14 +42,14 @@ fn put_written(
         Written::Clauses {
             words: k,
             clauses,
-            highest,
+            next,
             bits: b,
         } => put_file(
             out,
             c as u64,
             w as u64,
             &bits[..b],
-            highest as u64,
+            next as u64 - 1,
             clauses as u64,
             &words[..k],
         ),
@@ -88,7 +88,7 @@ fn put_recipe(out: &mut [u8], c: u32, w: u32, recipe: &[u8]) -> usize
 {
     let mut bits = [0; BITS];
     let mut words = word_room();
-    let written = write::write(c as u64, w, recipe, &mut bits, &mut words);
+    let written = write::write_plain(c as u64, w, recipe, &mut bits, &mut words);
     put_written(out, c, w, written, &bits, &words)
 }
 

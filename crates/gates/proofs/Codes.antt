@@ -13,7 +13,7 @@ use Rattle.cnf.specs.Clause.{Literal, signed, negation, new}
 use Rattle.cnf.specs.Words.{word}
 use Rattle.product.specs.Bit.{Bit, fixed, unfixed, flip, num, stored}
 use Rattle.product.specs.Column.{odd}
-use Rattle.product.proofs.WordsMean.{odd-mod}
+use Rattle.product.proofs.ColumnMeans.{odd-mod}
 use Rattle.gates.specs.Code.{code-sign, literal-of, bit-of, bits-of, negated-code, flipped-code}
 
 -- ---- even and odd

@@ -1,3 +1,4 @@
 pub mod Codes
 pub mod Stores
 pub mod GateWords
+pub mod Given

@@ -1,9 +1,9 @@
 -- A bit as a number, its code: 0 and 1 are the fixed bits, 2 * v is variable v, and 2 * v + 1 its negation, v at least 1.
-use Prim.Native.Nat.{ℕ, _+_, _-_, _/_, _%_}
+use Prim.Native.Nat.{ℕ, suc, _+_, _-_, _*_, _/_, _%_}
 use mathlib.Core.Bool.{Bool, true, false, cond}
 use mathlib.Core.List.{List, map}
 use lib.Dec.{eqb, ltb}
-use lib.IntN.{ℤ}
+use lib.IntN.{ℤ, pos, negsuc}
 use Rattle.cnf.specs.Clause.{Literal}
 use Rattle.cnf.specs.Words.{word}
 use Rattle.product.specs.Bit.{Bit, fixed, unfixed}
@@ -37,3 +37,9 @@ flipped-code b f = cond (eqb (f % 2) 0) b (negated-code b)
 -- the code 0 has the word that closes a clause
 abbrev pub code-words : List ℕ → List ℤ
 code-words codes = map (λ (b : ℕ). word (literal-of b)) codes
+
+-- ---- the code of a literal that is given as a word
+
+abbrev pub code-of-word : ℤ → ℕ
+code-of-word (pos v) = 2 * v
+code-of-word (negsuc v) = 2 * suc v + 1

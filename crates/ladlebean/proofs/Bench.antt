@@ -17,8 +17,7 @@ pub record Right (table : Table) : Type 0 where
   pub planned : plan.Right split-of (table .planned)
   pub plan-rooms : plan.RoomsRight split-of (table .plan-rooms)
   pub checked : recipe.Right (table .checked)
-  pub written : product.Right (table .written)
-  pub write-rooms : product.RoomsRight (table .write-rooms)
+  pub written : product.Right table
   pub printed : dimacs.Right split-of (table .printed)
 
 pub bench-right : Right bench
@@ -30,7 +29,6 @@ bench-right =
       plan-rooms = refl;
       checked = recipe.bench-right;
       written = product.bench-right;
-      write-rooms = refl;
       printed = refl;
     }
 
@@ -42,6 +40,5 @@ agreed-right =
       plan-rooms = plan.agreed-rooms-right;
       checked = recipe.agreed-right;
       written = product.agreed-right;
-      write-rooms = product.agreed-rooms-right;
       printed = dimacs.agreed-right;
     }

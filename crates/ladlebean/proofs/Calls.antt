@@ -8,11 +8,10 @@ use lib.IntN.{ℤ}
 use lib.ListN.{length, drop, set}
 use Rattle.plan.specs.Plan.{planned, planned-number, planned-lines}
 use Rattle.plan.specs.declared.Planned.{Planned}
-use Rattle.product.specs.Write.{written, written-number, words-used, clauses-written, highest-variable, bits-of-y, counts-of}
-use Rattle.product.specs.declared.Counts.{Counts}
+use Rattle.product.specs.Write.{written, written-number}
 use Rattle.product.specs.declared.Written.{Written}
 use Rattle.line.specs.Room.{over}
-use Rattle.ladlebean.specs.Archive.{planning, writing}
+use Rattle.ladlebean.specs.Archive.{planning, writing, counts-told}
 
 -- ---- planning
 
@@ -38,15 +37,12 @@ planning-told c work recipe answers h a work′ recipe′ n k p q r s t =
 
 -- ---- writing
 
-pub writing-short : (c w : ℕ) (recipe : List ℕ) (bits clauses : List ℤ) (answers : List ℕ) → length answers < 4
-    → (99 ≡ writing c w recipe bits clauses answers .number)
-    × ((bits ≡ writing c w recipe bits clauses answers .bits)
-    × ((clauses ≡ writing c w recipe bits clauses answers .clauses) × (answers ≡ writing c w recipe bits clauses answers .answers)))
+pub writing-short : (c w : ℕ) (x : List ℤ) (first : ℕ) (recipe : List ℕ) (bits clauses : List ℤ) (answers : List ℕ) → length answers < 4
+    → (99 ≡ writing c w x first recipe bits clauses answers .number)
+    × ((bits ≡ writing c w x first recipe bits clauses answers .bits)
+    × ((clauses ≡ writing c w x first recipe bits clauses answers .clauses) × (answers ≡ writing c w x first recipe bits clauses answers .answers)))
 unfolding writing
-writing-short c w recipe bits clauses answers h = rw (lt-ltb (length answers) 4 h) (refl, (refl, (refl, refl)))
-
-abbrev listed : Counts → List ℕ
-listed n = n .words ∷ n .clauses ∷ n .highest ∷ n .bits ∷ []
+writing-short c w x first recipe bits clauses answers h = rw (lt-ltb (length answers) 4 h) (refl, (refl, (refl, refl)))
 
 pub four-over : (answers : List ℕ) (a b c d : ℕ) → 4 ≤ length answers → set (set (set (set answers 0 a) 1 b) 2 c) 3 d ≡ over (a ∷ b ∷ c ∷ d ∷ []) answers
 four-over [] a b c d h = absurd (omega arith)
@@ -55,13 +51,14 @@ four-over (p ∷ q ∷ []) a b c d h = absurd (omega arith)
 four-over (p ∷ q ∷ r ∷ []) a b c d h = absurd (omega arith)
 four-over (p ∷ q ∷ r ∷ s ∷ l) a b c d h = refl
 
-pub writing-told : (c w : ℕ) (recipe : List ℕ) (bits clauses : List ℤ) (answers : List ℕ) → 4 ≤ length answers → (a : Written) (bits′ clauses′ : List ℤ) (answers′ : List ℕ) (n : Counts) (k : ℕ)
-    → a ≡ written c w recipe bits clauses .answer → bits′ ≡ written c w recipe bits clauses .bits → clauses′ ≡ written c w recipe bits clauses .clauses
-    → n ≡ counts-of a → answers′ ≡ over (listed n) answers → k ≡ written-number a
-    → (k ≡ writing c w recipe bits clauses answers .number)
-    × ((bits′ ≡ writing c w recipe bits clauses answers .bits)
-    × ((clauses′ ≡ writing c w recipe bits clauses answers .clauses) × (answers′ ≡ writing c w recipe bits clauses answers .answers)))
+pub writing-told : (c w : ℕ) (x : List ℤ) (first : ℕ) (recipe : List ℕ) (bits clauses : List ℤ) (answers : List ℕ) → 4 ≤ length answers
+    → (a : Written) (bits′ clauses′ : List ℤ) (answers′ : List ℕ) (k : ℕ)
+    → a ≡ written c w x first recipe bits clauses .answer → bits′ ≡ written c w x first recipe bits clauses .bits → clauses′ ≡ written c w x first recipe bits clauses .clauses
+    → k ≡ written-number a → answers′ ≡ over (counts-told a) answers
+    → (k ≡ writing c w x first recipe bits clauses answers .number)
+    × ((bits′ ≡ writing c w x first recipe bits clauses answers .bits)
+    × ((clauses′ ≡ writing c w x first recipe bits clauses answers .clauses) × (answers′ ≡ writing c w x first recipe bits clauses answers .answers)))
 unfolding writing
-writing-told c w recipe bits clauses answers h a bits′ clauses′ answers′ n k p q r s t u =
+writing-told c w x first recipe bits clauses answers h a bits′ clauses′ answers′ k p q r s t =
     rw (le-ltb (length answers) 4 h)
-    (u ∙ ap written-number p, (q, (r, t ∙ ap (λ (m : Counts). over (listed m) answers) (s ∙ ap counts-of p))))
+    (s ∙ ap written-number p, (q, (r, t ∙ ap (λ (b : Written). over (counts-told b) answers) p)))

@@ -1,7 +1,7 @@
 -- The three demands, of the calls `plan`, `check` and `write`.
 --
 -- A call's contract fixes its answer and every room at exit as functions of what came in: `planned c work recipe`, `checked c recipe` and
--- `written c w recipe bits clauses`, document 01 as definitions. So what is said here of these functions is said of the calls, and two results that
+-- `written c w x first recipe bits clauses`, document 01 as definitions. So what is said here of these functions is said of the calls, and two results that
 -- meet a contract are one (Once.antt, of every public call).
 --
 -- Demand 1. Every call takes any constant, width, recipe and rooms: no contract has a condition on the caller. It refuses by document 01's numbers,
@@ -10,18 +10,26 @@
 --
 -- Demand 2. A recipe is accepted exactly when it is right (`accepted-exactly`): c is in range, there are at most 32 lines of five bytes, each line has
 -- the form, names earlier operands, claims an odd coefficient and exactly the one that its kind gives, and the product is c's odd part. For an
--- accepted one, a width from 1 to 16 and rooms that suffice, writing does not refuse, and in the DIMACS meaning of the words that stand in the
--- clause room each input x below 2^w extends to exactly one satisfying assignment, and there the entries of the bit room read as c * x
--- (`each-input`). The planner gives the recipe that document 01's rules give and no other: a lookup that keeps the rule at every odd number of at
--- most L bits is the one that planning uses (`rule-fixes-splits`); the planned recipe's lines claim the coefficients of c's set, each once
--- (`planned-coefficients`), in order of bit length, then fewer zero bits, then value (`planned-order`), and it is accepted (`planned-is-right`).
+-- accepted one, a width from 1 to 16, as many literals of distinct variables below the first free number, room for the new numbers and rooms that
+-- suffice, writing does not refuse, and in the DIMACS meaning of the words that stand in the
+-- clause room each assignment of the variables below the first free number extends to exactly one of those below the next that satisfies them, and
+-- there the entries of the bit room read as c times the number that the given literals read as (`each-input`). The new variables are those from the
+-- first free number to the one before the next: each stands in some clause, and the clauses name no others but x's (`new-variables`).
+--
+-- Document 01's call is the case where x is the variables 1 to w and the first free number is w + 1: its tests are document 01's in document 01's order,
+-- so that it never refuses by 14 or 15 (`plain-tests`), and each input of the width has exactly one assignment (`plain-each-input`). Every other call of
+-- the same recipe leaves the same words and entries with the variables renamed, with signs, and the same counts (`other-names`).
+--
+-- The planner gives the recipe that document 01's rules give and no other: a lookup that keeps the rule at every odd number of at most L bits is the one
+-- that planning uses (`rule-fixes-splits`); the planned recipe's lines claim the coefficients of c's set, each once (`planned-coefficients`), in order of
+-- bit length, then fewer zero bits, then value (`planned-order`), and it is accepted (`planned-is-right`).
 --
 -- Demand 3. For c from 1 to 65,535 with L bits in its odd part, the planned recipe has at most L div 2 lines, and never more than the nonzero digits of
 -- the odd part's non-adjacent form less one (`few-lines`), of which every positive number has exactly one (`one-form`). At width w its clauses, read
 -- off the room, are at most 14 * (L + w) a line (`few-clauses`).
 use Prim.Native.Nat.{ℕ, suc, _+_, _-_, _*_, _/_, _%_, _^_, _≤_, _<_}
 use mathlib.Core.Path.{_≡_, refl, sym, ap, _∙_, subst}
-use mathlib.Core.Bool.{true}
+use mathlib.Core.Bool.{Bool, true, false}
 use mathlib.Core.List.{List}
 use native.Mathlib.Omega.{arith}
 use lib.IntN.{ℤ}
@@ -48,11 +56,15 @@ use Rattle.plan.specs.declared.Planned.the-variants as plan-answers
 use Rattle.plan.proofs.Accepts as plan-laws
 use Rattle.plan.proofs.Accepts.{planned-accepted, planned-claims, planned-lines-half, planned-lines-form, planned-bits}
 use Rattle.product.specs.Product.{Product, product-of, clause-words}
-use Rattle.product.specs.Write.{written, write-by, write-answer, written-number, highest-variable, y-length}
-use Rattle.product.specs.Demand.{Demand-2, Result, words-at-exit, entries-at-exit}
+use Rattle.product.specs.Bit.{numbered}
+use Rattle.product.specs.Write.{not-literals, most-next, written, write-by, write-answer, plain-answer, written-number, next-free, y-length}
+use Rattle.product.specs.Demand.{Demand-2, Plain-demand-2, Result, words-at-exit, entries-at-exit, Opened, Renamed}
 use Rattle.product.specs.declared.Written.{Written}
 use Rattle.product.specs.declared.Written.the-variants as write-answers
-use Rattle.product.proofs.Demands.{demand-2, not-refused, demand-3-clauses}
+use Rattle.product.proofs.Given.{literals-of}
+use Rattle.product.proofs.Demands.{demand-2, not-refused, opened, plain-demand-2, renamed, demand-3-clauses}
+use Rattle.product.proofs.Plain.{plain-order}
+use Rattle.product.proofs.Success.{answer-of}
 use Rattle.cnf.specs.Words.{clauses-of}
 
 -- ---- demand 1
@@ -76,11 +88,11 @@ writing-by (write-answers.Clauses k n v b) p bits clauses x e =
     absurd (omega arith)
 writing-by (write-answers.Refused y) p bits clauses x e = (refl, refl)
 
-pub writing-refused : (c w : ℕ) (recipe : List ℕ) (bits clauses : List ℤ) (x : Refusal) → written c w recipe bits clauses .answer ≡ write-answers.Refused x
-    → (written c w recipe bits clauses .bits ≡ bits) × (written c w recipe bits clauses .clauses ≡ clauses)
+pub writing-refused : (c w : ℕ) (x : List ℤ) (first : ℕ) (recipe : List ℕ) (bits clauses : List ℤ) (r : Refusal) → written c w x first recipe bits clauses .answer ≡ write-answers.Refused r
+    → (written c w x first recipe bits clauses .bits ≡ bits) × (written c w x first recipe bits clauses .clauses ≡ clauses)
 unfolding written
-writing-refused c w recipe bits clauses x e =
-    writing-by (write-answer c w recipe (length bits) (length clauses)) (product-of c w recipe) bits clauses x e
+writing-refused c w x first recipe bits clauses r e =
+    writing-by (write-answer c w x first recipe (length bits) (length clauses)) (product-of c x first recipe) bits clauses r e
 
 -- ---- demand 2
 
@@ -88,14 +100,39 @@ pub accepted-exactly : (c : ℕ) (recipe : List ℕ) → (checked c recipe ≡ A
 accepted-exactly c recipe = (accepted-right c recipe, right-accepted c recipe)
 
 -- an answer and two rooms at exit that meet writing's contract, for an accepted recipe in rooms that suffice
-module _ (c w : ℕ) (recipe : List ℕ) (bits clauses : List ℤ) (answer : Written) (bits′ clauses′ : List ℤ) (meets : Result c w recipe bits clauses answer bits′ clauses′)
-    (accepted : checked c recipe ≡ Accepted) (some : 1 ≤ w) (few : w ≤ 16) (bits-fit : y-length c w ≤ length bits)
-    (clauses-fit : length (clause-words (product-of c w recipe)) ≤ length clauses) where
+module _ (c w : ℕ) (x : List ℤ) (first : ℕ) (recipe : List ℕ) (bits clauses : List ℤ) (answer : Written) (bits′ clauses′ : List ℤ)
+    (meets : Result c w x first recipe bits clauses answer bits′ clauses′)
+    (accepted : checked c recipe ≡ Accepted) (some : 1 ≤ w) (few : w ≤ 16) (literals : not-literals w x first ≡ false)
+    (next-fits : product-of c x first recipe .next ≤ most-next) (bits-fit : y-length c w ≤ length bits)
+    (clauses-fit : length (clause-words (product-of c x first recipe)) ≤ length clauses) where
   succeeds : written-number answer ≡ 0
-  succeeds = not-refused c w recipe bits clauses answer bits′ clauses′ meets accepted some few bits-fit clauses-fit
+  succeeds =
+      let l = literals-of w x first literals in
+      not-refused c w x first recipe bits clauses answer bits′ clauses′ meets accepted some few (l .0) (l .1) next-fits bits-fit clauses-fit
 
-  pub each-input : (x : ℕ) → x < 2 ^ w → Demand-2 c w x (highest-variable answer) (words-at-exit answer clauses′) (entries-at-exit answer bits′)
-  each-input x h = demand-2 c w recipe bits clauses answer bits′ clauses′ meets succeeds x h
+  pub each-input : (before : List Bool) → length before ≡ first - 1
+      → Demand-2 c x first (next-free answer) (words-at-exit answer clauses′) (entries-at-exit answer bits′) before
+  each-input before h = demand-2 c w x first recipe bits clauses answer bits′ clauses′ meets succeeds before h
+
+  -- the new variables are those from first to next - 1
+  pub new-variables : Opened x first (next-free answer) (words-at-exit answer clauses′)
+  new-variables = opened c w x first recipe bits clauses answer bits′ clauses′ meets succeeds
+
+-- document 01's call is the case where x is the variables 1 to w and the first free number is w + 1
+module _ (c w : ℕ) (recipe : List ℕ) (bits clauses : List ℤ) (answer : Written) (bits′ clauses′ : List ℤ)
+    (meets : Result c w (numbered 1 w) (suc w) recipe bits clauses answer bits′ clauses′) where
+  pub plain-tests : answer ≡ plain-answer c w recipe (length bits) (length clauses)
+  plain-tests = meets .answered ∙ answer-of c w (numbered 1 w) (suc w) recipe bits clauses ∙ plain-order c w recipe (length bits) (length clauses)
+
+  module _ (success : written-number answer ≡ 0) where
+    pub plain-each-input : (v : ℕ) → v < 2 ^ w → Plain-demand-2 c w v (next-free answer - 1) (words-at-exit answer clauses′) (entries-at-exit answer bits′)
+    plain-each-input = plain-demand-2 c w recipe bits clauses answer bits′ clauses′ meets success
+
+    -- the same recipe written over other literals, from another number on and in other rooms
+    pub other-names : (x : List ℤ) (first : ℕ) (bits₂ clauses₂ : List ℤ) (answer₂ : Written) (bits₂′ clauses₂′ : List ℤ)
+        → Result c w x first recipe bits₂ clauses₂ answer₂ bits₂′ clauses₂′ → written-number answer₂ ≡ 0
+        → Renamed x first answer bits′ clauses′ answer₂ bits₂′ clauses₂′
+    other-names = renamed c w recipe bits clauses answer bits′ clauses′ meets success
 
 pub rule-fixes-splits : (t : ℕ → ℕ) (L : ℕ) → Rule lines t L → L < 32 → (n : ℕ) → n % 2 ≡ 1 → bit-length n ≤ L → t n ≡ split-of n
 rule-fixes-splits t L rule few n odd small = only lines lines-depend t L rule few n odd small
@@ -125,10 +162,11 @@ module _ (c : ℕ) (least : 1 ≤ c) (most : c ≤ 65535) where
       × ((ds : List Digit) → SignedForm (odd-part c) ds → suc (length (recipe-for split-of (odd-part c))) ≤ nonzero ds)
   few-lines = (planned-lines-half c least most, planned-lines-form c least most)
 
-  pub few-clauses : (w : ℕ) (bits clauses : List ℤ) (answer : Written) (bits′ clauses′ : List ℤ) → Result c w bytes bits clauses answer bits′ clauses′ → written-number answer ≡ 0
+  pub few-clauses : (w : ℕ) (x : List ℤ) (first : ℕ) (bits clauses : List ℤ) (answer : Written) (bits′ clauses′ : List ℤ)
+      → Result c w x first bytes bits clauses answer bits′ clauses′ → written-number answer ≡ 0
       → length (clauses-of (words-at-exit answer clauses′)) ≤ 14 * (odd-bits c + w) * (length bytes / 5)
-  few-clauses w bits clauses answer bits′ clauses′ meets z =
-      demand-3-clauses c w bytes bits clauses answer bits′ clauses′ meets z (odd-bits c) (planned-bits c least most)
+  few-clauses w x first bits clauses answer bits′ clauses′ meets z =
+      demand-3-clauses c w x first bytes bits clauses answer bits′ clauses′ meets z (odd-bits c) (planned-bits c least most)
 
 pub one-form : (n : ℕ) → SignedForm n (signed-form n) × ((ds : List Digit) → SignedForm n ds → ds ≡ signed-form n)
 one-form n = (form-is n, form-only n)

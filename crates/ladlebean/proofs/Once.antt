@@ -44,6 +44,10 @@ use Rattle.gates.proofs.word.Kinds as WordKinds
 use Rattle.gates.proofs.word.Reads as Word
 use Rattle.gates.proofs.write_column.Kinds as WriteColumnKinds
 use Rattle.gates.proofs.write_column.Reads as WriteColumn
+use Rattle.gates.proofs.named.Kinds as NamedKinds
+use Rattle.gates.proofs.named.Reads as Named
+use Rattle.write.proofs.write_plain.Kinds as WritePlainKinds
+use Rattle.write.proofs.write_plain.Reads as WritePlain
 use Rattle.write.proofs.write.Kinds as WriteKinds
 use Rattle.write.proofs.write.Reads as Write
 use Rattle.dimacs.proofs.file.Kinds as FileKinds
@@ -54,6 +58,8 @@ use Rattle.ladlebean.proofs.ladlebean_plan.Kinds as ArchivePlanKinds
 use Rattle.ladlebean.proofs.ladlebean_plan.Reads as ArchivePlan
 use Rattle.ladlebean.proofs.ladlebean_write.Kinds as ArchiveWriteKinds
 use Rattle.ladlebean.proofs.ladlebean_write.Reads as ArchiveWrite
+use Rattle.ladlebean.proofs.ladlebean_write_plain.Kinds as ArchiveWritePlainKinds
+use Rattle.ladlebean.proofs.ladlebean_write_plain.Reads as ArchiveWritePlain
 
 -- an outcome is an answer and the parameters at exit; `Same` compares two of them
 abbrev Coincide : {n : ℕ} (ps : List (PK n)) (r : RK n) → Out n ps r
@@ -116,11 +122,17 @@ flipped-once κs a x y e f p q = p ∙ sym q
 pub word-once : Answers WordKinds.ps WordKinds.r Word.Learnt
 word-once κs a x y e f p q = p ∙ sym q
 
+pub named-once : Answers NamedKinds.ps NamedKinds.r Named.Learnt
+named-once κs a x y e f p q = p ∙ sym q
+
 pub write-column-once : Coincide WriteColumnKinds.ps WriteColumnKinds.r WriteColumn.Learnt (λ κs x y e f. (x ≡ y) × (now (e .1 .1 .0) ≡ now (f .1 .1 .0)))
 write-column-once κs a x y e f p q = (p .0 ∙ sym (q .0), p .1 ∙ sym (q .1))
 
-pub write-once : Coincide WriteKinds.ps WriteKinds.r Write.Learnt (λ κs x y e f. (x ≡ y) × (now (e .1 .1 .1 .0) ≡ now (f .1 .1 .1 .0)) × (now (e .1 .1 .1 .1 .0) ≡ now (f .1 .1 .1 .1 .0)))
+pub write-once : Coincide WriteKinds.ps WriteKinds.r Write.Learnt (λ κs x y e f. (x ≡ y) × (now (e .1 .1 .1 .1 .1 .0) ≡ now (f .1 .1 .1 .1 .1 .0)) × (now (e .1 .1 .1 .1 .1 .1 .0) ≡ now (f .1 .1 .1 .1 .1 .1 .0)))
 write-once κs a x y e f p q = (p .0 ∙ sym (q .0), p .1 .0 ∙ sym (q .1 .0), p .1 .1 ∙ sym (q .1 .1))
+
+pub write-plain-once : Coincide WritePlainKinds.ps WritePlainKinds.r WritePlain.Learnt (λ κs x y e f. (x ≡ y) × (now (e .1 .1 .1 .0) ≡ now (f .1 .1 .1 .0)) × (now (e .1 .1 .1 .1 .0) ≡ now (f .1 .1 .1 .1 .0)))
+write-plain-once κs a x y e f p q = (p .0 ∙ sym (q .0), p .1 .0 ∙ sym (q .1 .0), p .1 .1 ∙ sym (q .1 .1))
 
 pub file-once : Coincide FileKinds.ps FileKinds.r File.Learnt (λ κs x y e f. (x ≡ y) × (now (e .1 .0) ≡ now (f .1 .0)))
 file-once κs a x y e f p q = (p .0 ∙ sym (q .0), p .1 ∙ sym (q .1))
@@ -131,5 +143,8 @@ archive-check-once κs a x y e f p q = p ∙ sym q
 pub archive-plan-once : Coincide ArchivePlanKinds.ps ArchivePlanKinds.r ArchivePlan.Learnt (λ κs x y e f. (x ≡ y) × (now (e .1 .0) ≡ now (f .1 .0)) × (now (e .1 .1 .0) ≡ now (f .1 .1 .0)) × (now (e .1 .1 .1 .0) ≡ now (f .1 .1 .1 .0)))
 archive-plan-once κs a x y e f p q = (p .0 ∙ sym (q .0), p .1 .0 ∙ sym (q .1 .0), p .1 .1 .0 ∙ sym (q .1 .1 .0), p .1 .1 .1 ∙ sym (q .1 .1 .1))
 
-pub archive-write-once : Coincide ArchiveWriteKinds.ps ArchiveWriteKinds.r ArchiveWrite.Learnt (λ κs x y e f. (x ≡ y) × (now (e .1 .1 .1 .0) ≡ now (f .1 .1 .1 .0)) × (now (e .1 .1 .1 .1 .0) ≡ now (f .1 .1 .1 .1 .0)) × (now (e .1 .1 .1 .1 .1 .0) ≡ now (f .1 .1 .1 .1 .1 .0)))
+pub archive-write-once : Coincide ArchiveWriteKinds.ps ArchiveWriteKinds.r ArchiveWrite.Learnt (λ κs x y e f. (x ≡ y) × (now (e .1 .1 .1 .1 .1 .0) ≡ now (f .1 .1 .1 .1 .1 .0)) × (now (e .1 .1 .1 .1 .1 .1 .0) ≡ now (f .1 .1 .1 .1 .1 .1 .0)) × (now (e .1 .1 .1 .1 .1 .1 .1 .0) ≡ now (f .1 .1 .1 .1 .1 .1 .1 .0)))
 archive-write-once κs a x y e f p q = (p .0 ∙ sym (q .0), p .1 .0 ∙ sym (q .1 .0), p .1 .1 .0 ∙ sym (q .1 .1 .0), p .1 .1 .1 ∙ sym (q .1 .1 .1))
+
+pub archive-write-plain-once : Coincide ArchiveWritePlainKinds.ps ArchiveWritePlainKinds.r ArchiveWritePlain.Learnt (λ κs x y e f. (x ≡ y) × (now (e .1 .1 .1 .0) ≡ now (f .1 .1 .1 .0)) × (now (e .1 .1 .1 .1 .0) ≡ now (f .1 .1 .1 .1 .0)) × (now (e .1 .1 .1 .1 .1 .0) ≡ now (f .1 .1 .1 .1 .1 .0)))
+archive-write-plain-once κs a x y e f p q = (p .0 ∙ sym (q .0), p .1 .0 ∙ sym (q .1 .0), p .1 .1 .0 ∙ sym (q .1 .1 .0), p .1 .1 .1 ∙ sym (q .1 .1 .1))

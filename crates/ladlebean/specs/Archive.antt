@@ -1,5 +1,5 @@
 -- The entry points for C: each answers the refusal's number, or 0, and leaves the counts in a lent slice of answers.
-use Prim.Native.Nat.{ℕ}
+use Prim.Native.Nat.{ℕ, suc}
 use mathlib.Core.Bool.{cond}
 use mathlib.Core.List.{List, [], _∷_}
 use lib.Dec.{ltb}
@@ -8,8 +8,10 @@ use lib.ListN.{length}
 use Rattle.line.specs.Room.{over}
 use Rattle.plan.specs.Plan as plan
 use Rattle.plan.specs.Plan.{planned, planned-number, planned-lines}
+use Rattle.product.specs.Bit.{numbered}
+use Rattle.product.specs.declared.Written.{Written}
 use Rattle.product.specs.Write as write
-use Rattle.product.specs.Write.{written, written-number, words-used, clauses-written, highest-variable, bits-of-y}
+use Rattle.product.specs.Write.{written, written-number, words-used, clauses-written, next-free, bits-of-y}
 
 -- the number that says that the answers' slice is too short; document 01 has no such number
 abbrev pub short-answers : ℕ
@@ -31,7 +33,7 @@ unfoldable pub planning : ℕ → List ℕ → List ℕ → List ℕ → Plannin
 planning c work recipe answers =
     cond (ltb (length answers) 1) (record { number = short-answers; work = work; recipe = recipe; answers = answers }) (told-planning (planned c work recipe) answers)
 
--- ---- writing: four answers, the words used, the clauses, the highest variable and the bits of y
+-- ---- writing: four answers, the words used, the clauses, the next free number and the bits of y
 
 pub record Writing : Type 0 where
   pub number : ℕ
@@ -39,15 +41,16 @@ pub record Writing : Type 0 where
   pub clauses : List ℤ
   pub answers : List ℕ
 
-abbrev pub told-writing : write.Outcome → List ℕ → Writing
-told-writing o answers =
-    record {
-      number = written-number (o .answer);
-      bits = o .bits;
-      clauses = o .clauses;
-      answers = over (words-used (o .answer) ∷ clauses-written (o .answer) ∷ highest-variable (o .answer) ∷ bits-of-y (o .answer) ∷ []) answers;
-    }
+abbrev pub counts-told : Written → List ℕ
+counts-told a = words-used a ∷ clauses-written a ∷ next-free a ∷ bits-of-y a ∷ []
 
-unfoldable pub writing : ℕ → ℕ → List ℕ → List ℤ → List ℤ → List ℕ → Writing
-writing c w recipe bits clauses answers =
-    cond (ltb (length answers) 4) (record { number = short-answers; bits = bits; clauses = clauses; answers = answers }) (told-writing (written c w recipe bits clauses) answers)
+abbrev pub told-writing : write.Outcome → List ℕ → Writing
+told-writing o answers = record { number = written-number (o .answer); bits = o .bits; clauses = o .clauses; answers = over (counts-told (o .answer)) answers }
+
+unfoldable pub writing : ℕ → ℕ → List ℤ → ℕ → List ℕ → List ℤ → List ℤ → List ℕ → Writing
+writing c w x first recipe bits clauses answers =
+    cond (ltb (length answers) 4) (record { number = short-answers; bits = bits; clauses = clauses; answers = answers }) (told-writing (written c w x first recipe bits clauses) answers)
+
+-- document 01's call: x is the variables 1 to w
+abbrev pub plain-writing : ℕ → ℕ → List ℕ → List ℤ → List ℤ → List ℕ → Writing
+plain-writing c w recipe bits clauses answers = writing c w (numbered 1 w) (suc w) recipe bits clauses answers

@@ -1,7 +1,7 @@
 -- Document 01's number of each refusal.
 use Prim.Native.Nat.{ℕ}
 use Rattle.line.specs.declared.Refusal.{Refusal}
-use Rattle.line.specs.declared.Refusal.the-variants.{Constant, Width, Length, Form, Operand, Even, Value, Product, BitRoom, ClauseRoom, WorkRoom, RecipeRoom, Input}
+use Rattle.line.specs.declared.Refusal.the-variants.{Constant, Width, Length, Form, Operand, Even, Value, Product, BitRoom, ClauseRoom, WorkRoom, RecipeRoom, Input, Literals, Variables}
 
 abbrev pub refusal-number : Refusal → ℕ
 refusal-number Constant = 1
@@ -17,3 +17,5 @@ refusal-number ClauseRoom = 10
 refusal-number WorkRoom = 11
 refusal-number RecipeRoom = 12
 refusal-number Input = 13
+refusal-number Literals = 14
+refusal-number Variables = 15

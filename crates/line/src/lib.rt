@@ -149,7 +149,7 @@ pub fn odd_part(c: u64) -> u64
     c >> twos(c)
 }
 
-// Why a call refuses: document 01's list, in its order.
+// Why a call refuses: document 01's list, in its order, and then document 02's.
 pub enum Refusal {
     Constant,
     Width,
@@ -164,12 +164,14 @@ pub enum Refusal {
     WorkRoom,
     RecipeRoom,
     Input,
+    Literals,
+    Variables,
 }
 
 impl Refusal {
     // Document 01's number.
     pub fn number(self) -> u64
-        ensures { λ r. ⌜ (r ≡ refusal-number self) × (r ≤ 13) ⌝ }
+        ensures { λ r. ⌜ (r ≡ refusal-number self) × (r < 100) ⌝ }
     {
         match self {
             Refusal::Constant => 1,
@@ -185,6 +187,8 @@ impl Refusal {
             Refusal::WorkRoom => 11,
             Refusal::RecipeRoom => 12,
             Refusal::Input => 13,
+            Refusal::Literals => 14,
+            Refusal::Variables => 15,
         }
     }
 }

@@ -2,10 +2,12 @@
 -- c times the largest x.
 use Prim.Native.Nat.{ℕ, zero, suc, _+_, _-_, _*_, _/_, _^_, _≤_, _<_}
 use mathlib.Core.Path.{_≡_, refl, sym, ap, ap₂, _∙_, subst}
-use mathlib.Core.Logic.{⊎-elim}
+use mathlib.Core.Logic.{_⊎_, inl, inr, ⊎-elim}
+use mathlib.Core.Bool.{true}
 use mathlib.Core.List.{List, [], _∷_, _++_, map}
 use native.Mathlib.Nat.{add-suc, suc-add, add-zero, zero-add, eq-or-lt-of-le}
 use native.Mathlib.Omega.{arith}
+use lib.IntN.{ℤ}
 use lib.ListN.{length, getD, length-append, List·getD-append}
 use lib.Seq.{getD-append-seam}
 use Rattle.line.specs.Number.{bit-length, twos, odd-part}
@@ -13,15 +15,15 @@ use Rattle.line.specs.declared.Line.{Line}
 use Rattle.line.proofs.Number.{odd-part-odd, odd-part-whole}
 use Rattle.recipe.specs.Accepted.{Makes}
 use Rattle.recipe.specs.Check.{line-at, coefficient-at}
-use Rattle.cnf.specs.Words.{From-1}
-use Rattle.product.specs.Bit.{variables}
+use Rattle.cnf.specs.Words.{From-1, names}
+use Rattle.cnf.proofs.Extend.{Fresh, Names}
+use Rattle.product.specs.Bit.{given}
 use Rattle.product.specs.Product.{last, lines-from, lines-of, product, product-of}
 use Rattle.product.specs.Write.{y-length}
-use Rattle.product.specs.Demand.{Lines-right, lines-product}
+use Rattle.product.specs.Demand.{Lines-right, lines-product, Bits-below}
 use Rattle.product.proofs.BitLengths.{bit-length-of-y}
-use Rattle.product.proofs.Lengths.{length-variables}
+use Rattle.product.proofs.Given.{Fit, length-given, given-below, given-named}
 use Rattle.product.proofs.ProductMeans.{length-y, Product-multiplies, product-multiplies}
-use Rattle.product.proofs.WordsMean.{variables-below}
 
 -- ---- the coefficients of the operands 0 to i
 
@@ -75,24 +77,31 @@ module _ (d : ℕ) (recipe : List ℕ) (g : Makes d recipe) where
   pub product-is : lines-product (lines-of recipe) ≡ d
   product-is = last-line recipe (length recipe / 5) 0 ∙ (ap (λ (k : ℕ). coefficient-at recipe k) (zero-add (length recipe / 5)) ∙ g .product)
 
-module _ (c w : ℕ) (recipe : List ℕ) (g : Makes (odd-part c) recipe) where
+module _ (c : ℕ) (x : List ℤ) (first : ℕ) (recipe : List ℕ) (g : Makes (odd-part c) recipe) where
   constant-is : lines-product (lines-of recipe) * 2 ^ twos c ≡ c
   constant-is = ap (λ (d : ℕ). d * 2 ^ twos c) (product-is (odd-part c) recipe g) ∙ odd-part-whole c
 
   -- the product is c times x
-  pub product-of-multiplies : Product-multiplies From-1 c (variables 1 w) (suc w) (product-of c w recipe)
+  product-by : (Used : ℕ → Type 0) → Fresh Used first → Bits-below Used first (given x) → Product-multiplies Used c (given x) first (product-of c x first recipe)
   unfolding product-of
-  product-of-multiplies =
-      subst (λ (k : ℕ). Product-multiplies From-1 k (variables 1 w) (suc w) (product (twos c) (lines-of recipe) (variables 1 w) (suc w))) constant-is
-      (product-multiplies From-1 (twos c) (lines-of recipe) (variables 1 w) (suc w) (λ v h. omega arith) (variables-below w 1 (suc w) (omega arith) (omega arith))
-      (lines-right (odd-part c) recipe g))
+  product-by Used fresh below =
+      subst (λ (k : ℕ). Product-multiplies Used k (given x) first (product (twos c) (lines-of recipe) (given x) first)) constant-is
+      (product-multiplies Used (twos c) (lines-of recipe) (given x) first fresh below (lines-right (odd-part c) recipe g))
+
+  pub product-of-multiplies : 0 < first → Fit first x → Product-multiplies From-1 c (given x) first (product-of c x first recipe)
+  product-of-multiplies some fit = product-by From-1 (λ v h. omega arith) (given-below first x fit)
+
+  -- its clauses name x's variables and new ones
+  pub product-of-names : Fit first x → Names (λ u. (names u x ≡ true) ⊎ (first ≤ u)) (product-of c x first recipe .next) (product-of c x first recipe .clauses)
+  product-of-names fit =
+      product-by (λ u. (names u x ≡ true) ⊎ (first ≤ u)) (λ v h. inr h) (given-named (λ u. (names u x ≡ true) ⊎ (first ≤ u)) first x fit (λ u e. inl e)) .extends .names
 
   -- y fills its entries
-  pub length-of-y : 0 < c → 0 < w → length (product-of c w recipe .y) ≡ y-length c w
+  pub length-of-y : 0 < c → 0 < length x → length (product-of c x first recipe .y) ≡ y-length c (length x)
   unfolding product-of
   length-of-y p q =
       let d : ℕ = lines-product (lines-of recipe) in
       let pos-d : 0 < d = omega (arith, product-is (odd-part c) recipe g, odd-part-odd c p) in
-      length-y (twos c) (lines-of recipe) (variables 1 w) (suc w) (omega (arith, length-variables 1 w))
-      ∙ sym (bit-length-of-y (length (variables 1 w)) (twos c) d (omega (arith, length-variables 1 w)) pos-d)
-      ∙ ap₂ (λ (k v : ℕ). bit-length (k * (2 ^ v - 1))) constant-is (length-variables 1 w)
+      length-y (twos c) (lines-of recipe) (given x) first (omega (arith, length-given x))
+      ∙ sym (bit-length-of-y (length (given x)) (twos c) d (omega (arith, length-given x)) pos-d)
+      ∙ ap₂ (λ (k v : ℕ). bit-length (k * (2 ^ v - 1))) constant-is (length-given x)

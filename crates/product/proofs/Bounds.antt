@@ -6,6 +6,7 @@ use mathlib.Core.Bool.{Bool, true, false}
 use mathlib.Core.List.{List, [], _∷_, _++_}
 use native.Mathlib.Nat.{mul-suc, mul-le-mul-left}
 use native.Mathlib.Omega.{arith}
+use lib.IntN.{ℤ}
 use lib.ListN.{length, getD, length-append}
 use Rattle.line.specs.Line.{Kind, splus, sminus, minuss, kind-of}
 use Rattle.line.specs.declared.Line.{Line}
@@ -15,12 +16,14 @@ use Rattle.recipe.specs.Check.{line-at}
 use Rattle.cnf.specs.Clause.{Literal, Clause}
 use Rattle.cnf.specs.Words.{words}
 use Rattle.cnf.proofs.Words.{words-append}
-use Rattle.product.specs.Bit.{Bit, fixed, unfixed, variables}
+use Rattle.product.specs.Bit.{Bit, fixed, unfixed, given}
 use Rattle.product.specs.Column.{fixed-sum, literals, Made, parity, sum, both, either, most, carry, carry-unless, column}
 use Rattle.product.specs.Lines.{none-left, adder, fitted, line-sum, columns, line-encoded, encoded}
 use Rattle.product.specs.Product.{lines-from, lines-of, product, product-of, clause-words}
 use Rattle.product.proofs.BitLengths.{columns-le}
-use Rattle.product.proofs.Lengths.{length-fitted, length-variables, length-lines}
+use Rattle.product.proofs.Lengths.{length-fitted, length-lines}
+use Rattle.product.proofs.Given.{length-given}
+use Rattle.product.proofs.Nexts.{Narrow, encoded-few}
 
 -- a column has three inputs
 pub inputs-few : (bs : List Bit) → fixed-sum bs + length (literals bs) ≤ length bs
@@ -112,25 +115,44 @@ module _ (size : List Clause → ℕ) (most : ℕ) (none : size [] ≡ 0) (appen
         mul-suc (most * (L + w)) (length ls),
       )
 
-  -- document 01's call
-  product-size : (c w : ℕ) (recipe : List ℕ) (L : ℕ) → ((i : ℕ) → i < length recipe / 5 → bit-length (line-at recipe i .coefficient) ≤ L)
-      → size (product-of c w recipe .clauses) ≤ most * (L + w) * (length recipe / 5)
+  -- the call
+  product-size : (c : ℕ) (x : List ℤ) (first : ℕ) (recipe : List ℕ) (L : ℕ) → ((i : ℕ) → i < length recipe / 5 → bit-length (line-at recipe i .coefficient) ≤ L)
+      → size (product-of c x first recipe .clauses) ≤ most * (L + length x) * (length recipe / 5)
   unfolding product-of product
-  product-size c w recipe L h =
+  product-size c x first recipe L h =
       let n = length recipe / 5 in
       let small : Small L (lines-of recipe) = small-from recipe L n 0 (λ j k. h j (omega arith)) in
       omega (
         arith,
-        recipe-size (length (variables 1 w)) L (lines-of recipe) (variables 1 w ∷ []) (suc w) small,
-        ap (λ (v : ℕ). most * (L + v) * length (lines-of recipe)) (length-variables 1 w),
-        ap (λ (m : ℕ). most * (L + w) * m) (length-lines recipe 0 n),
+        recipe-size (length (given x)) L (lines-of recipe) (given x ∷ []) first small,
+        ap (λ (v : ℕ). most * (L + v) * length (lines-of recipe)) (length-given x),
+        ap (λ (m : ℕ). most * (L + length x) * m) (length-lines recipe 0 n),
       )
 
 -- the clause bound of demand 3
-pub few-clauses : (c w : ℕ) (recipe : List ℕ) (L : ℕ) → ((i : ℕ) → i < length recipe / 5 → bit-length (line-at recipe i .coefficient) ≤ L)
-    → length (product-of c w recipe .clauses) ≤ 14 * (L + w) * (length recipe / 5)
+pub few-clauses : (c : ℕ) (x : List ℤ) (first : ℕ) (recipe : List ℕ) (L : ℕ) → ((i : ℕ) → i < length recipe / 5 → bit-length (line-at recipe i .coefficient) ≤ L)
+    → length (product-of c x first recipe .clauses) ≤ 14 * (L + length x) * (length recipe / 5)
 few-clauses = product-size length 14 refl length-append (λ l r c last n. column-clauses l r c last n .0)
 
-pub few-words : (c w : ℕ) (recipe : List ℕ) (L : ℕ) → ((i : ℕ) → i < length recipe / 5 → bit-length (line-at recipe i .coefficient) ≤ L)
-    → length (clause-words (product-of c w recipe)) ≤ 64 * (L + w) * (length recipe / 5)
+pub few-words : (c : ℕ) (x : List ℤ) (first : ℕ) (recipe : List ℕ) (L : ℕ) → ((i : ℕ) → i < length recipe / 5 → bit-length (line-at recipe i .coefficient) ≤ L)
+    → length (clause-words (product-of c x first recipe)) ≤ 64 * (L + length x) * (length recipe / 5)
 few-words = product-size (λ (cs : List Clause). length (words cs)) 64 refl words-of-both (λ l r c last n. column-clauses l r c last n .1)
+
+narrow-small : (w L : ℕ) (ls : List Line) → Small L ls → Narrow (columns w) (L + w) ls
+narrow-small w L [] h = tt
+narrow-small w L (l ∷ ls) h = (columns-le w (l .coefficient) L (h .0), narrow-small w L ls (h .1))
+
+-- at most two new variables a column
+pub few-next : (c : ℕ) (x : List ℤ) (first : ℕ) (recipe : List ℕ) (L : ℕ) → ((i : ℕ) → i < length recipe / 5 → bit-length (line-at recipe i .coefficient) ≤ L)
+    → product-of c x first recipe .next ≤ first + 2 * (L + length x) * (length recipe / 5)
+unfolding product-of product
+few-next c x first recipe L h =
+    let n = length recipe / 5 in
+    let v : ℕ = length (given x) in
+    let small : Small L (lines-of recipe) = small-from recipe L n 0 (λ j k. h j (omega arith)) in
+    omega (
+      arith,
+      encoded-few (columns v) (L + v) (lines-of recipe) (given x ∷ []) first (narrow-small v L (lines-of recipe) small),
+      ap (λ (k : ℕ). 2 * (L + k) * length (lines-of recipe)) (length-given x),
+      ap (λ (m : ℕ). 2 * (L + length x) * m) (length-lines recipe 0 n),
+    )

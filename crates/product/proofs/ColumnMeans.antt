@@ -2,7 +2,7 @@
 --
 -- The sum's and the carry's clauses are steps (crates/cnf, Extend), so a column extends every assignment of the variables below n to exactly one.
 -- `Column-adds` is all that the sums above know of a column: another description of a column asks only for `column-adds` again.
-use Prim.Native.Nat.{ℕ, zero, suc, _+_, _*_, _≤_}
+use Prim.Native.Nat.{ℕ, zero, suc, _+_, _*_, _%_, _≤_}
 use mathlib.Core.Path.{_≡_, refl, sym, ap, ap₂, _∙_}
 use mathlib.Core.Bool.{Bool, true, false, not, Bool·beq, false≢true}
 use mathlib.Core.List.{List, [], _∷_, _++_, map}
@@ -67,6 +67,9 @@ sum-of-inputs α l r c =
 pub num-le : (b : Bool) → num b ≤ 1
 num-le true = omega arith
 num-le false = omega arith
+
+pub odd-mod : (x : ℕ) → num (odd x) ≡ x % 2
+odd-mod x = omega (arith, halves x .1, num-le (odd x))
 
 module _ (Used : ℕ → Type 0) where
   pub bit-more : {n m : ℕ} (b : Bit) → n ≤ m → Bit-below Used n b → Bit-below Used m b

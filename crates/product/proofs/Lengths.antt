@@ -6,14 +6,9 @@ use native.Mathlib.Omega.{arith}
 use lib.ListN.{length, length-append, length-map}
 use Rattle.line.specs.Line.{Kind, splus, sminus, minuss}
 use Rattle.line.specs.declared.Line.{Line}
-use Rattle.product.specs.Bit.{Bit, flip, variables}
+use Rattle.product.specs.Bit.{Bit, flip}
 use Rattle.product.specs.Lines.{adder, shifted, fitted, line-sum, line-encoded, encoded}
 use Rattle.product.specs.Product.{lines-from}
-
-pub length-variables : (v w : ℕ) → length (variables v w) ≡ w
-unfolding variables
-length-variables v zero = refl
-length-variables v (suc w) = ap suc (length-variables (suc v) w)
 
 pub length-shifted : (t : ℕ) (bs : List Bit) → length (shifted t bs) ≡ t + length bs
 unfolding shifted

@@ -4,6 +4,9 @@ pub mod Lengths
 pub mod BitLengths
 pub mod Bounds
 pub mod ShapeMeans
+pub mod Nexts
+pub mod Renamed
+pub mod Given
 pub mod ColumnMeans
 pub mod AdderMeans
 pub mod LineMeans
@@ -11,6 +14,8 @@ pub mod RecipeMeans
 pub mod ProductMeans
 pub mod WordsMean
 pub mod AcceptedMeans
+pub mod RenamedWords
+pub mod Plain
 pub mod Success
 pub mod Demands
 pub mod Instances

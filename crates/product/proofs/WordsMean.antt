@@ -1,73 +1,24 @@
--- A product that multiplies, as words and entries: for each x below 2^w exactly one list of values of the variables 1 to the highest
--- begins with x's bits and satisfies the clauses that the words are, and there the entries read as c times x. And what is counted off the words.
-use Prim.Native.Nat.{ℕ, zero, suc, _+_, _-_, _*_, _/_, _%_, _^_, _≤_, _<_}
-use mathlib.Core.Path.{_≡_, refl, sym, ap, _∙_, subst}
-use mathlib.Core.Logic.{_≢_, ⊎-elim}
+-- A product that multiplies, as words and entries: each list of values of the variables below first extends to exactly one of those below
+-- next that satisfies the clauses that the words are, and there the entries read as c times x. And what is counted off the words.
+use Prim.Native.Nat.{ℕ, zero, suc, _+_, _-_, _*_, _≤_, _<_}
+use mathlib.Core.Path.{_≡_, refl, sym, ap, _∙_}
+use mathlib.Core.Logic.{_≢_}
 use mathlib.Core.Bool.{Bool, true, false}
 use mathlib.Core.List.{List, [], _∷_, map}
-use native.Mathlib.Nat.{not-suc-le-zero, add-zero, pow-suc, eq-or-lt-of-le}
+use native.Mathlib.Nat.{not-suc-le-zero, add-zero}
 use native.Mathlib.Omega.{arith}
 use lib.ListN.{length, getD, take}
-use lib.Pow.{pow-pos}
-use lib.Seq.{ext-getD}
+use lib.IntN.{ℤ}
+use lib.Seq.{ext-getD, length-take-le}
 use Rattle.cnf.specs.Clause.{Assignment, flips, satisfies}
 use Rattle.cnf.specs.Words.{From-1, word-by, clauses-of, satisfies-words, highest-named}
-use Rattle.cnf.proofs.Extend.{Agree, satisfies-local}
+use Rattle.cnf.proofs.Extend.{past, Agree, satisfies-local}
 use Rattle.cnf.proofs.Words.{clauses-of-words, highest-of-words}
-use Rattle.product.specs.Bit.{Bit, fixed, unfixed, variables, num, reads, stored}
-use Rattle.product.specs.Column.{odd}
+use Rattle.product.specs.Bit.{Bit, fixed, unfixed, given, num, reads, stored}
 use Rattle.product.specs.Product.{Product, y-entries, clause-words}
-use Rattle.product.specs.Demand.{Bits-below, assignment, number-of, entry-value, entries-read, Demand-2}
-use Rattle.product.proofs.ColumnMeans.{num-le, halves}
+use Rattle.product.specs.Demand.{Bits-below, assignment, entry-value, entries-read, Demand-2}
+use Rattle.product.proofs.Given.{Fit, given-below, reads-given, all-false, reads-all-false}
 use Rattle.product.proofs.ProductMeans.{reads-local, Product-multiplies, y-not-fixed-at-1}
-
--- ---- x as the variables 1 to w
-
-pub variables-below : (w v n : ℕ) → 0 < v → v + w ≤ n → Bits-below From-1 n (variables v w)
-unfolding variables
-variables-below zero v n p h = tt
-variables-below (suc w) v n p h = ((p, omega arith), variables-below w (suc v) n (omega arith) (omega arith))
-
-digit : ℕ → ℕ → Bool
-digit x zero = odd x
-digit x (suc i) = digit (x / 2) i
-
-pub odd-mod : (x : ℕ) → num (odd x) ≡ x % 2
-odd-mod x = omega (arith, halves x .1, num-le (odd x))
-
-reads-digits : (w v x : ℕ) (α : Assignment) → x < 2 ^ w → ((i : ℕ) → i < w → α (v + i) ≡ digit x i) → reads α (variables v w) ≡ x
-unfolding digit variables
-reads-digits zero v x α lt h = omega arith
-reads-digits (suc w) v x α lt h =
-    let a : α v ≡ odd x = ap α (sym (add-zero v)) ∙ h 0 (omega arith) in
-    let r : reads α (variables (suc v) w) ≡ x / 2 =
-    reads-digits w (suc v) (x / 2) α (omega (arith, pow-suc 2 w)) (λ i l. ap α (omega arith) ∙ h (suc i) (omega arith)) in
-    omega (arith, ap num a, odd-mod x, r)
-
-of-number : ℕ → Assignment
-of-number x v = digit x (v - 1)
-
-reads-number : (w x : ℕ) → x < 2 ^ w → reads (of-number x) (variables 1 w) ≡ x
-unfolding of-number
-reads-number w x lt = reads-digits w 1 x (of-number x) lt (λ i l. ap (digit x) (omega arith))
-
-num-injective : (a b : Bool) → num a ≡ num b → a ≡ b
-num-injective true true e = refl
-num-injective true false e = absurd (omega arith)
-num-injective false true e = absurd (omega arith)
-num-injective false false e = refl
-
--- the variables of one number have one assignment
-reads-same : (w v : ℕ) (α β : Assignment) → reads α (variables v w) ≡ reads β (variables v w) → (u : ℕ) → v ≤ u → u < v + w → α u ≡ β u
-unfolding variables
-reads-same zero v α β e u l h = absurd (omega arith)
-reads-same (suc w) v α β e u l h =
-    let a : num (α v) ≡ num (β v) = omega (arith, e, num-le (α v), num-le (β v)) in
-    let r : reads α (variables (suc v) w) ≡ reads β (variables (suc v) w) = omega (arith, e, a) in
-    ⊎-elim
-    (λ (q : v ≡ u). subst (λ (k : ℕ). α k ≡ β k) q (num-injective (α v) (β v) a))
-    (λ (q : v < u). reads-same w (suc v) α β r u q (omega arith))
-    (eq-or-lt-of-le l)
 
 -- ---- entries of the bit room
 
@@ -100,61 +51,62 @@ table-at α v zero i h = absurd (not-suc-le-zero h)
 table-at α v (suc n) zero h = ap α (sym (add-zero v))
 table-at α v (suc n) (suc i) h = table-at α (suc v) n i (omega arith) ∙ ap α (omega arith)
 
-number-of-values : (a : List Bool) (w v : ℕ) (α : Assignment) → w ≤ length a → ((i : ℕ) → i < w → α (v + i) ≡ getD a i false) → reads α (variables v w) ≡ number-of (take w a)
-unfolding variables
-number-of-values a zero v α h f = refl
-number-of-values [] (suc w) v α h f = absurd (not-suc-le-zero h)
-number-of-values (b ∷ a) (suc w) v α h f =
-    omega (arith, ap num (ap α (sym (add-zero v)) ∙ f 0 (omega arith)), number-of-values a w (suc v) α (omega arith) (λ i l. ap α (omega arith) ∙ f (suc i) (omega arith)))
+-- the first values
+take-at-place : (k : ℕ) (a : List Bool) (j : ℕ) → j < k → getD (take k a) j false ≡ getD a j false
+take-at-place zero a j h = absurd (not-suc-le-zero h)
+take-at-place (suc k) [] j h = refl
+take-at-place (suc k) (b ∷ a) zero h = refl
+take-at-place (suc k) (b ∷ a) (suc j) h = take-at-place k a j (omega arith)
 
--- the first w values are x
-values-of-x : (a : List Bool) (w : ℕ) → w ≤ length a → reads (assignment a) (variables 1 w) ≡ number-of (take w a)
-values-of-x a w h = number-of-values a w 1 (assignment a) h (λ i l. ap (λ (k : ℕ). getD a k false) (omega arith))
-
-module _ (c w : ℕ) (p : Product) (f : Product-multiplies From-1 c (variables 1 w) (suc w) p) where
-  x-below : Bits-below From-1 (suc w) (variables 1 w)
-  x-below = variables-below w 1 (suc w) (omega arith) (omega arith)
-
+module _ (c : ℕ) (x : List ℤ) (first : ℕ) (fit : Fit first x) (some : 0 < first) (p : Product) (f : Product-multiplies From-1 c (given x) first p) where
   pub no-bit-fixed-at-1 : (k : ℕ) → getD (p .y) k (fixed false) ≢ fixed true
-  no-bit-fixed-at-1 = y-not-fixed-at-1 c (variables 1 w) (suc w) p f x-below (of-number 0) (reads-number w 0 (pow-pos w))
+  no-bit-fixed-at-1 = y-not-fixed-at-1 c (given x) first p f (given-below first x fit) (all-false x) (reads-all-false first x fit)
 
   -- ---- what is counted off the words
 
   pub clauses-counted : length (clauses-of (clause-words p)) ≡ length (p .clauses)
   clauses-counted = ap length (clauses-of-words (p .next) (p .clauses) (f .extends .names))
 
-  pub highest-counted : highest-named w (clause-words p) ≡ p .next - 1
-  highest-counted = omega (arith, highest-of-words w (p .clauses), f .extends .opens)
+  pub next-counted : suc (highest-named (first - 1) (clause-words p)) ≡ p .next
+  next-counted =
+      let e : suc (first - 1) ≡ first = omega arith in
+      highest-of-words (first - 1) (p .clauses) ∙ ap (λ (n : ℕ). past n (p .clauses)) e ∙ f .extends .opens
 
   -- ---- demand 2
 
-  pub demand-2 : (x : ℕ) → x < 2 ^ w → Demand-2 c w x (p .next - 1) (clause-words p) (y-entries p)
-  demand-2 x lt =
+  pub demand-2 : (before : List Bool) → length before ≡ first - 1 → Demand-2 c x first (p .next) (clause-words p) (y-entries p) before
+  demand-2 before lb =
       let n : ℕ = p .next - 1 in
-      let b = f .extends .exists (of-number x) in
-      let e : reads (b .0) (variables 1 w) ≡ x = sym (reads-local From-1 (variables 1 w) x-below (b .1)) ∙ reads-number w x lt in
+      let k : ℕ = first - 1 in
+      let α : Assignment = assignment before in
+      let b = f .extends .exists α in
       let a : List Bool = table (b .0) 1 n in
-      let w≤ : suc w ≤ p .next = f .extends .grows in
+      let grows : first ≤ p .next = f .extends .grows in
       let la : length a ≡ n = length-table (b .0) 1 n in
-      let agree : Agree From-1 (p .next) (assignment a) (b .0) = λ v p q. table-at (b .0) 1 n (v - 1) (omega arith) ∙ ap (b .0) (omega arith) in
+      let at : (j : ℕ) → j < n → getD a j false ≡ b .0 (suc j) = λ j h. table-at (b .0) 1 n j h ∙ ap (b .0) (omega arith) in
+      let agree : Agree From-1 (p .next) (assignment a) (b .0) = λ v p q. at (v - 1) (omega arith) ∙ ap (b .0) (omega arith) in
       let same : (α : Assignment) → satisfies-words α (clause-words p) ≡ satisfies α (p .clauses) =
       λ α. ap (satisfies α) (clauses-of-words (p .next) (p .clauses) (f .extends .names)) in
       record {
         values = a;
         long = la;
-        input = sym (values-of-x a w (omega arith)) ∙ reads-local From-1 (variables 1 w) (variables-below w 1 (p .next) (omega arith) (omega arith)) agree ∙ e;
+        extends =
+            ext-getD false (take k a) before (length-take-le k a (omega arith) ∙ sym lb) (λ j h.
+            let h′ : j < k = omega (arith, length-take-le k a (omega arith)) in
+            take-at-place k a j h′ ∙ at j (omega arith) ∙ sym (b .1 (suc j) (omega arith) (omega arith)) ∙ ap (λ (i : ℕ). getD before i false) (omega arith));
         existence = same (assignment a) ∙ satisfies-local From-1 (p .clauses) (f .extends .names) agree ∙ b .2;
         uniqueness = λ o lo io so.
             let s : satisfies (assignment o) (p .clauses) ≡ true = sym (same (assignment o)) ∙ so in
-            let i : reads (assignment o) (variables 1 w) ≡ x = values-of-x o w (omega arith) ∙ io in
-            let q = f .extends .unique (b .0) (assignment o) (λ v p l. reads-same w 1 (b .0) (assignment o) (e ∙ sym i) v p (omega arith)) (b .2) s in
-            ext-getD false o a (lo ∙ sym la) (λ k l.
-            ap (λ (j : ℕ). getD o j false) (omega arith)
-            ∙ sym (q (suc k) (omega arith) (omega arith))
-            ∙ sym (table-at (b .0) 1 n k (omega arith) ∙ ap (b .0) (omega arith)));
+            let e : Agree From-1 first (b .0) (assignment o) =
+            λ v p l. sym (b .1 v p l) ∙ ap (λ (q : List Bool). getD q (v - 1) false) (sym io) ∙ take-at-place k o (v - 1) (omega arith) in
+            let q = f .extends .unique (b .0) (assignment o) e (b .2) s in
+            ext-getD false o a (lo ∙ sym la) (λ j l.
+            ap (λ (i : ℕ). getD o i false) (omega arith)
+            ∙ sym (q (suc j) (omega arith) (omega arith))
+            ∙ sym (at j (omega arith)));
         value =
             entries-of-y (p .next) (assignment a) (p .y) (f .below) no-bit-fixed-at-1
             ∙ reads-local From-1 (p .y) (f .below) agree
             ∙ f .value (b .0) (b .2)
-            ∙ ap (λ (k : ℕ). c * k) e;
+            ∙ ap (λ (v : ℕ). c * v) (sym (reads-local From-1 (given x) (given-below first x fit) (b .1)) ∙ reads-given first α x fit);
       }

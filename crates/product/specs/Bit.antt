@@ -1,10 +1,10 @@
 -- A bit is 0, 1, or a literal.
 use Prim.Native.Nat.{ℕ, zero, suc, _+_, _*_}
 use mathlib.Core.Bool.{Bool, true, false, not}
-use mathlib.Core.List.{List, [], _∷_}
+use mathlib.Core.List.{List, [], _∷_, map}
 use lib.IntN.{ℤ, pos}
-use Rattle.cnf.specs.Clause.{Literal, Assignment, negation, new, value}
-use Rattle.cnf.specs.Words.{word}
+use Rattle.cnf.specs.Clause.{Literal, Assignment, negation, value}
+use Rattle.cnf.specs.Words.{word, literal-of-word}
 
 pub data Bit : Type 0 where
   fixed : Bool → Bit
@@ -14,10 +14,14 @@ abbrev pub flip : Bit → Bit
 flip (fixed b) = fixed (not b)
 flip (unfixed l) = unfixed (negation l)
 
--- w variables from v on; x is those from 1 on
-unfoldable pub variables : ℕ → ℕ → List Bit
-variables v zero = []
-variables v (suc w) = unfixed (new v) ∷ variables (suc v) w
+-- the bits of x are given literals
+abbrev pub given : List ℤ → List Bit
+given x = map (λ (l : ℤ). unfixed (literal-of-word l)) x
+
+-- w variables from v on as literals; document 01's x is those from 1 on
+unfoldable pub numbered : ℕ → ℕ → List ℤ
+numbered v zero = []
+numbered v (suc w) = pos v ∷ numbered (suc v) w
 
 -- ---- the number that bits are under an assignment, lowest first
 

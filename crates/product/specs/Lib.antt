@@ -3,4 +3,5 @@ pub mod Column
 pub mod Lines
 pub mod Product
 pub mod Write
+pub mod Renaming
 pub mod Demand

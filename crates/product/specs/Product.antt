@@ -8,7 +8,7 @@ use Rattle.line.specs.declared.Line.{Line}
 use Rattle.recipe.specs.Check.{line-at}
 use Rattle.cnf.specs.Clause.{Clause}
 use Rattle.cnf.specs.Words.{words}
-use Rattle.product.specs.Bit.{Bit, variables, stored}
+use Rattle.product.specs.Bit.{Bit, given, numbered, stored}
 use Rattle.product.specs.Lines.{shifted, columns, Encoded, encoded}
 
 abbrev pub last {ℓ} : {A : Type ℓ} → A → List A → A
@@ -26,7 +26,7 @@ product t lines x n =
     let e : Encoded = encoded (columns (length x)) lines (x ∷ []) n in
     record { y = shifted t (last [] (e .operands)); clauses = e .clauses; next = e .next }
 
--- ---- document 01's call: x is the variables 1 to w, read off the recipe's bytes
+-- ---- the call: x is given literals, first the first free variable, and the lines are read off the recipe's bytes
 
 -- n lines of a recipe, from line i + 1 on
 unfoldable pub lines-from : List ℕ → ℕ → ℕ → List Line
@@ -36,8 +36,12 @@ lines-from recipe i (suc n) = line-at recipe i ∷ lines-from recipe (suc i) n
 abbrev pub lines-of : List ℕ → List Line
 lines-of recipe = lines-from recipe 0 (length recipe / 5)
 
-unfoldable pub product-of : ℕ → ℕ → List ℕ → Product
-product-of c w recipe = product (twos c) (lines-of recipe) (variables 1 w) (suc w)
+unfoldable pub product-of : ℕ → List ℤ → ℕ → List ℕ → Product
+product-of c x first recipe = product (twos c) (lines-of recipe) (given x) first
+
+-- document 01's call: x is the variables 1 to w
+abbrev pub plain-product-of : ℕ → ℕ → List ℕ → Product
+plain-product-of c w recipe = product-of c (numbered 1 w) (suc w) recipe
 
 -- as they are stored
 abbrev pub y-entries : Product → List ℤ

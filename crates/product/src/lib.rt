@@ -1,7 +1,7 @@
 // The product of x and a constant as clauses: what writing answers.
 
 ghost use mathlib.Core.Path.{_≡_};
-ghost use Prim.Native.Nat.{_≤_};
+ghost use Prim.Native.Nat.{_<_};
 ghost use Rattle.product.specs.Write.{written-number, counts-of};
 use line::Refusal;
 
@@ -9,7 +9,7 @@ pub enum Written {
     Clauses {
         words: usize,
         clauses: usize,
-        highest: u32,
+        next: u32,
         bits: usize,
     },
     Refused(Refusal),
@@ -18,27 +18,27 @@ pub enum Written {
 pub struct Counts {
     pub words: usize,
     pub clauses: usize,
-    pub highest: u32,
+    pub next: u32,
     pub bits: usize,
 }
 
 impl Written {
     // Document 01's number, 0 for success.
     pub fn number(self) -> u64
-        ensures { λ r. ⌜ (r ≡ written-number self) × (r ≤ 13) ⌝ }
+        ensures { λ r. ⌜ (r ≡ written-number self) × (r < 100) ⌝ }
     {
         match self {
             Written::Clauses {
                 words: _,
                 clauses: _,
-                highest: _,
+                next: _,
                 bits: _,
             } => 0,
             Written::Refused(x) => x.number(),
         }
     }
 
-    // Words used, clauses, highest variable and bits of y; all zero in a refusal.
+    // Words used, clauses, the next free number and bits of y; all zero in a refusal.
     pub fn counts(self) -> Counts
         ensures { λ r. ⌜ r ≡ counts-of self ⌝ }
     {
@@ -46,18 +46,18 @@ impl Written {
             Written::Clauses {
                 words,
                 clauses,
-                highest,
+                next,
                 bits,
             } => Counts {
                 words,
                 clauses,
-                highest,
+                next,
                 bits,
             },
             Written::Refused(_) => Counts {
                 words: 0,
                 clauses: 0,
-                highest: 0,
+                next: 0,
                 bits: 0,
             },
         }

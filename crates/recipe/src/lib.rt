@@ -22,7 +22,7 @@ pub enum Checked {
 impl Checked {
     // Document 01's number, 0 for success.
     pub fn number(self) -> u64
-        ensures { λ r. ⌜ (r ≡ checked-number self) × (r ≤ 13) ⌝ }
+        ensures { λ r. ⌜ (r ≡ checked-number self) × (r < 100) ⌝ }
     {
         match self {
             Checked::Accepted => 0,

@@ -12,7 +12,7 @@ use Rattle.line.specs.Room.{over}
 use Rattle.recipe.specs.Check.{out-of-range}
 use Rattle.split.specs.Choose.{split-of}
 use Rattle.split.specs.Order.{recipe-for, lines-bytes}
-use Rattle.product.specs.Product.{Product, product-of, y-entries, clause-words}
+use Rattle.product.specs.Product.{Product, plain-product-of, y-entries, clause-words}
 use Rattle.product.specs.Write.{not-a-width}
 use Rattle.wording.specs.Request.{asked}
 use Rattle.wording.specs.File.{file-text, refused-text}
@@ -30,7 +30,7 @@ answered t Malformed = refused-text (refusal-number Input)
 answered t (Asked c w) =
     cond (out-of-range c) (refused-text (refusal-number Constant))
     (cond (not-a-width w) (refused-text (refusal-number Width))
-    (product-text c w (product-of c w (lines-bytes (recipe-for t (odd-part c))))))
+    (product-text c w (plain-product-of c w (lines-bytes (recipe-for t (odd-part c))))))
 
 unfoldable pub printed-by : (ℕ → ℕ) → List ℕ → List ℕ
 printed-by t input = answered t (asked input)

@@ -22,6 +22,7 @@ use Rattle.write.specs.declared.column.MadeBit.{MadeBit}
 use Rattle.write.specs.declared.column.MadeColumn.{MadeColumn}
 use Rattle.gates.proofs.Codes.{literal-negated, literal-new, new-flipped, bit-zero, bit-literal, bit-new, bit-flipped, bit-mod}
 use Rattle.gates.proofs.GateWords.{flips-false, not-twice}
+use Rattle.product.proofs.Nexts.{carry-grows}
 
 -- ---- the inputs
 
@@ -105,35 +106,35 @@ parity-flipped ps f z = ap (λ (l : Literal). parity ps (l .negated) (l .variabl
 
 pub sum-of-none : (f z : ℕ) → MatchesBit z (record { bit = f % 2; gate = Empty; next = z }) (sum f [] z)
 unfolding sum
-sum-of-none f z = record { bit = bit-mod f; clauses = refl; next = refl; grows = omega arith; few = omega arith }
+sum-of-none f z = record { bit = bit-mod f; clauses = refl; next = refl; grows = omega arith }
 
 pub sum-of-one : (p f z : ℕ) → 2 ≤ p → MatchesBit z (record { bit = flipped-code p f; gate = Empty; next = z }) (sum f (literal-of p ∷ []) z)
 unfolding sum
-sum-of-one p f z h = record { bit = bit-flipped p f h; clauses = refl; next = refl; grows = omega arith; few = omega arith }
+sum-of-one p f z h = record { bit = bit-flipped p f h; clauses = refl; next = refl; grows = omega arith }
 
 pub sum-of-two : (p q f z : ℕ) → 0 < z
     → MatchesBit z (record { bit = 2 * z; gate = ParityOfTwo p q (flipped-code (2 * z) f); next = z + 1 }) (sum f (literal-of p ∷ literal-of q ∷ []) z)
 unfolding sum
 sum-of-two p q f z h =
-    record { bit = bit-new z h; clauses = parity-flipped (literal-of p ∷ literal-of q ∷ []) f z; next = add-one z; grows = omega arith; few = omega arith }
+    record { bit = bit-new z h; clauses = parity-flipped (literal-of p ∷ literal-of q ∷ []) f z; next = add-one z; grows = omega arith }
 
 pub sum-of-three : (p q r f z : ℕ) → 0 < z
     → MatchesBit z (record { bit = 2 * z; gate = ParityOfThree p q r (flipped-code (2 * z) f); next = z + 1 }) (sum f (literal-of p ∷ literal-of q ∷ literal-of r ∷ []) z)
 unfolding sum
 sum-of-three p q r f z h =
-    record { bit = bit-new z h; clauses = parity-flipped (literal-of p ∷ literal-of q ∷ literal-of r ∷ []) f z; next = add-one z; grows = omega arith; few = omega arith }
+    record { bit = bit-new z h; clauses = parity-flipped (literal-of p ∷ literal-of q ∷ literal-of r ∷ []) f z; next = add-one z; grows = omega arith }
 
 -- ---- the carry
 
 pub carry-of-none : (b f t : ℕ) → bit-of b ≡ carry f [] 0 .bit → MatchesBit t (record { bit = b; gate = Empty; next = t }) (carry f [] t)
 unfolding carry
-carry-of-none b f t e = record { bit = e; clauses = refl; next = refl; grows = omega arith; few = omega arith }
+carry-of-none b f t e = record { bit = e; clauses = refl; next = refl; grows = omega arith }
 
 pub carry-of-one : (b p f t : ℕ) → bit-of b ≡ carry f (literal-of p ∷ []) 0 .bit → MatchesBit t (record { bit = b; gate = Empty; next = t }) (carry f (literal-of p ∷ []) t)
 unfolding carry
-carry-of-one b p zero t e = record { bit = e; clauses = refl; next = refl; grows = omega arith; few = omega arith }
-carry-of-one b p (suc zero) t e = record { bit = e; clauses = refl; next = refl; grows = omega arith; few = omega arith }
-carry-of-one b p (suc (suc f)) t e = record { bit = e; clauses = refl; next = refl; grows = omega arith; few = omega arith }
+carry-of-one b p zero t e = record { bit = e; clauses = refl; next = refl; grows = omega arith }
+carry-of-one b p (suc zero) t e = record { bit = e; clauses = refl; next = refl; grows = omega arith }
+carry-of-one b p (suc (suc f)) t e = record { bit = e; clauses = refl; next = refl; grows = omega arith }
 
 -- the carry bits that need no variable
 pub carry-from-two : (f : ℕ) (ps : List Literal) → 2 ≤ f → length ps ≤ 1 → carry f ps 0 .bit ≡ fixed true
@@ -169,14 +170,13 @@ pub carry-of-two : (p q f t : ℕ) → f ≤ 1 → 0 < t
     → MatchesBit t (record { bit = 2 * t; gate = Both (flipped-code p f) (flipped-code q f) (flipped-code (2 * t) f); next = t + 1 }) (carry f (literal-of p ∷ literal-of q ∷ []) t)
 unfolding carry flipped-code
 carry-of-two p q zero t h k =
-    record { bit = bit-new t k; clauses = ap (λ (l : Literal). both (literal-of p) (literal-of q) l) (literal-new t); next = add-one t; grows = omega arith; few = omega arith }
+    record { bit = bit-new t k; clauses = ap (λ (l : Literal). both (literal-of p) (literal-of q) l) (literal-new t); next = add-one t; grows = omega arith }
 carry-of-two p q (suc zero) t h k =
     record {
       bit = bit-new t k;
       clauses = simp (literal-negated, literal-new) (both-negated (literal-of p) (literal-of q) (new t));
       next = add-one t;
       grows = omega arith;
-      few = omega arith;
     }
 carry-of-two p q (suc (suc f)) t h k = absurd (omega arith)
 
@@ -184,8 +184,33 @@ pub carry-of-three : (p q r f t : ℕ) → f ≡ 0 → 0 < t
     → MatchesBit t (record { bit = 2 * t; gate = Most p q r (2 * t); next = t + 1 }) (carry f (literal-of p ∷ literal-of q ∷ literal-of r ∷ []) t)
 unfolding carry
 carry-of-three p q r zero t h k =
-    record { bit = bit-new t k; clauses = ap (λ (l : Literal). most (literal-of p) (literal-of q) (literal-of r) l) (literal-new t); next = add-one t; grows = omega arith; few = omega arith }
+    record { bit = bit-new t k; clauses = ap (λ (l : Literal). most (literal-of p) (literal-of q) (literal-of r) l) (literal-new t); next = add-one t; grows = omega arith }
 carry-of-three p q r (suc f) t h k = absurd (omega arith)
+
+-- ---- a bit of two or three unfixed inputs is a new variable: where the next free one is at most k, it is below k
+
+pub sum-opens-two : {o : Unfixed} {p q : ℕ} (f z k : ℕ) → o ≡ Two p q → sum f (unfixed-literals o) z .next ≤ k → z < k
+unfolding sum
+sum-opens-two {o} {p} {q} f z k e h = rw e at h
+
+pub sum-opens-three : {o : Unfixed} {p q r : ℕ} (f z k : ℕ) → o ≡ Three p q r → sum f (unfixed-literals o) z .next ≤ k → z < k
+unfolding sum
+sum-opens-three {o} {p} {q} {r} f z k e h = rw e at h
+
+carry-opens : (f t : ℕ) (p q : Literal) (ps : List Literal) → carry f (p ∷ q ∷ ps) t .next ≡ suc t
+unfolding carry
+carry-opens zero t p q [] = refl
+carry-opens (suc f) t p q [] = refl
+carry-opens zero t p q (r ∷ ps) = refl
+carry-opens (suc f) t p q (r ∷ ps) = refl
+
+pub carry-opens-two : {o : Unfixed} {p q : ℕ} (f t k : ℕ) → o ≡ Two p q → carry f (unfixed-literals o) t .next ≤ k → t < k
+carry-opens-two {o} {p} {q} f t k e h =
+    omega (arith, h, ap (λ (u : Unfixed). carry f (unfixed-literals u) t .next) e, carry-opens f t (literal-of p) (literal-of q) [])
+
+pub carry-opens-three : {o : Unfixed} {p q r : ℕ} (f t k : ℕ) → o ≡ Three p q r → carry f (unfixed-literals o) t .next ≤ k → t < k
+carry-opens-three {o} {p} {q} {r} f t k e h =
+    omega (arith, h, ap (λ (u : Unfixed). carry f (unfixed-literals u) t .next) e, carry-opens f t (literal-of p) (literal-of q) (literal-of r ∷ []))
 
 -- ---- the column
 
@@ -195,6 +220,25 @@ column-from f ps n last =
     let s : Made = sum f ps n in
     let t : Made = carry-unless last f ps (s .next) in
     record { sum-bit = s .bit; carry-bit = t .bit; clauses = s .clauses ++ t .clauses; next = t .next }
+
+-- where the column's next free variable is at most k, so is the sum's, and the carry's
+module _ (l r c z k : ℕ) (i : Inputs) (v : Sees i (bit-of l ∷ bit-of r ∷ bit-of c ∷ [])) where
+  from-column : (last : Bool) → column (bit-of l) (bit-of r) (bit-of c) last z .next ≤ k → column-from (i .ones) (unfixed-literals (i .others)) z last .next ≤ k
+  unfolding column column-from
+  from-column last h =
+      subst (λ (f : ℕ). column-from f (unfixed-literals (i .others)) z last .next ≤ k) (sym (v .ones))
+      (subst (λ (ps : List Literal). column-from (fixed-sum (bit-of l ∷ bit-of r ∷ bit-of c ∷ [])) ps z last .next ≤ k) (sym (v .others)) h)
+
+  pub sum-fits : (last : Bool) → column (bit-of l) (bit-of r) (bit-of c) last z .next ≤ k → sum (i .ones) (unfixed-literals (i .others)) z .next ≤ k
+  unfolding column-from
+  sum-fits last h =
+      let ps = unfixed-literals (i .others) in
+      omega (arith, from-column last h, carry-grows last (i .ones) (sum (i .ones) ps z .next) ps .0)
+
+  pub carry-fits : column (bit-of l) (bit-of r) (bit-of c) false z .next ≤ k → (n : ℕ) → n ≡ sum (i .ones) (unfixed-literals (i .others)) z .next
+      → carry (i .ones) (unfixed-literals (i .others)) n .next ≤ k
+  unfolding column-from carry-unless
+  carry-fits h n e = subst (λ (m : ℕ). carry (i .ones) (unfixed-literals (i .others)) m .next ≤ k) (sym e) (from-column false h)
 
 module _ (l r c z : ℕ) (i : Inputs) (s : MadeBit) (v : Sees i (bit-of l ∷ bit-of r ∷ bit-of c ∷ [])) (m : MatchesBit z s (sum (i .ones) (unfixed-literals (i .others)) z)) where
   seen : (k : MadeColumn) (last : Bool) → MatchesColumn z k (column-from (i .ones) (unfixed-literals (i .others)) z last)
@@ -208,7 +252,7 @@ module _ (l r c z : ℕ) (i : Inputs) (s : MadeBit) (v : Sees i (bit-of l ∷ bi
   unfolding column-from carry-unless column-clauses
   last-column-is =
       seen _ true
-      (record { sum = m .bit; carry = bit-zero; clauses = ap (λ (x : List Clause). x ++ []) (m .clauses); next = m .next; grows = m .grows; few = omega (arith, m .few) })
+      (record { sum = m .bit; carry = bit-zero; clauses = ap (λ (x : List Clause). x ++ []) (m .clauses); next = m .next; grows = m .grows })
 
   pub column-is : (t : MadeBit) → MatchesBit (s .next) t (carry (i .ones) (unfixed-literals (i .others)) (s .next))
       → MatchesColumn z (record { sum = s .bit; carry = t .bit; next = t .next; parity = s .gate; majority = t .gate }) (column (bit-of l) (bit-of r) (bit-of c) false z)
@@ -222,5 +266,4 @@ module _ (l r c z : ℕ) (i : Inputs) (s : MadeBit) (v : Sees i (bit-of l ∷ bi
         clauses = ap₂ (λ (x y : List Clause). x ++ y) (m .clauses) (u .clauses);
         next = u .next;
         grows = omega (arith, m .grows, u .grows);
-        few = omega (arith, m .few, u .few);
       })

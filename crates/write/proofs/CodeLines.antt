@@ -26,6 +26,7 @@ use Rattle.gates.specs.Code.{bit-of, bits-of}
 use Rattle.write.specs.Terms.{operand-at}
 use Rattle.write.specs.Rooms.{SumIs, Holds, Writable, LinesAre}
 use Rattle.write.specs.declared.lines.Place.{Place}
+use Rattle.product.proofs.Nexts.{encoded-grows}
 use Rattle.product.proofs.At.{fitted-at, shifted-low, shifted-high}
 use Rattle.product.proofs.Lengths.{length-fitted, length-line}
 use Rattle.gates.proofs.Codes.{bit-at}
@@ -150,7 +151,6 @@ pub record Upto (whole : Encoded) (w : ℕ) (recipe : List ℕ) (n next : ℕ) (
   pub room-same : length room ≡ length room₀
   pub free-pos : 0 < free
   pub grows : next ≤ free
-  pub free-small : free ≤ next + 72 * i
   pub used-small : used ≤ 2880 * i
   pub count-small : count ≤ 576 * i
 
@@ -177,10 +177,38 @@ module _ (w : ℕ) (recipe : List ℕ) (x : List Bit) (n next : ℕ) (room₀ : 
         room-same = refl;
         free-pos = p;
         grows = omega arith;
-        free-small = omega arith;
         used-small = omega arith;
         count-small = omega arith;
       }
+
+  -- the line that the scratch room's operands give is that of the operands so far
+  line-read : (scratch : List ℕ) (room : List ℤ) (free used count i : ℕ) → (u : Upto whole w recipe n next room₀ scratch room free used count i) → i < n → Writable w recipe n
+      → let L = line-at recipe i in
+      line-sum (kind-of (L .kind)) (columns w (L .coefficient)) (bits-of (operand-at scratch (L .left))) (L .shift) (bits-of (operand-at scratch (L .right))) free
+      ≡ line-sum (kind-of (L .kind)) (columns w (L .coefficient)) (getD (u .operands) (L .left) []) (L .shift) (getD (u .operands) (L .right) []) free
+  line-read scratch room free used count i u lt ok =
+      let L = line-at recipe i in
+      line-same (kind-of (L .kind)) (columns w (L .coefficient)) (L .shift) free (bits-of (operand-at scratch (L .left))) (bits-of (operand-at scratch (L .right)))
+      (getD (u .operands) (L .left) []) (getD (u .operands) (L .right) []) (ok .columns i lt)
+      (λ j q. bit-at (operand-at scratch (L .left)) j ∙ operand-bits scratch (u .operands) (u .holds) (L .left) (omega (arith, u .operands-long, ok .lefts i lt)) j q)
+      (λ j q. bit-at (operand-at scratch (L .right)) j ∙ operand-bits scratch (u .operands) (u .holds) (L .right) (omega (arith, u .operands-long, ok .rights i lt)) j q)
+
+  -- a line's next free variable is at most that of the whole
+  pub line-fits : (scratch : List ℕ) (room : List ℤ) (free used count i k : ℕ) → Upto whole w recipe n next room₀ scratch room free used count i → i < n → Writable w recipe n
+      → (l : Line) → l ≡ line-at recipe i → (m : ℕ) → m ≡ columns w (l .coefficient) → whole .next ≤ k
+      → line-sum (kind-of (l .kind)) m (bits-of (operand-at scratch (l .left))) (l .shift) (bits-of (operand-at scratch (l .right))) free .next ≤ k
+  unfolding encoded line-encoded lines-from
+  line-fits scratch room free used count i k u lt ok l el m em h =
+      let L = line-at recipe i in
+      let Q : Line → ℕ → Type 0 = λ (q : Line) (j : ℕ).
+      line-sum (kind-of (q .kind)) j (bits-of (operand-at scratch (q .left))) (q .shift) (bits-of (operand-at scratch (q .right))) free .next ≤ k in
+      let S : Sum = line-sum (kind-of (L .kind)) (columns w (L .coefficient)) (getD (u .operands) (L .left) []) (L .shift) (getD (u .operands) (L .right) []) free in
+      let one : n - i ≡ suc (n - (i + 1)) = omega arith in
+      let a : whole .next ≡ encoded (columns w) (lines-from recipe (suc i) (n - (i + 1))) (u .operands ++ (S .bits ∷ [])) (S .next) .next =
+      u .next-is ∙ ap (λ (j : ℕ). encoded (columns w) (lines-from recipe i j) (u .operands) free .next) one in
+      let b = encoded-grows (columns w) (lines-from recipe (suc i) (n - (i + 1))) (u .operands ++ (S .bits ∷ [])) (S .next) in
+      let c : Q L (columns w (L .coefficient)) = omega (arith, h, a, b, ap (λ (s : Sum). s .next) (line-read scratch room free used count i u lt ok)) in
+      subst (λ (q : Line). Q q m) (sym el) (subst (λ (j : ℕ). Q L j) (sym (em ∙ ap (λ (q : Line). columns w (q .coefficient)) el)) c)
 
   pub more : (scratch scratch′ : List ℕ) (room room′ : List ℤ) (free used count i : ℕ) → Upto whole w recipe n next room₀ scratch room free used count i
       → i < n → Writable w recipe n → (l : Line) → l ≡ line-at recipe i → (m : ℕ) → m ≡ columns w (l .coefficient) → (r : Place)
@@ -197,10 +225,7 @@ module _ (w : ℕ) (recipe : List ℕ) (x : List Bit) (n next : ℕ) (room₀ : 
       SumIs (line-sum (kind-of (q .kind)) j (bits-of (operand-at scratch (q .left))) (q .shift) (bits-of (operand-at scratch (q .right))) free) from j (36 * (i + 1)) r scratch scratch′ room room′ in
       let y₁ : P L M = subst (λ (j : ℕ). P L j) (em ∙ ap (λ (q : Line). columns w (q .coefficient)) el) (subst (λ (q : Line). P q m) el y) in
       let S : Sum = line-sum (kind-of (L .kind)) M (getD (u .operands) (L .left) []) (L .shift) (getD (u .operands) (L .right) []) free in
-      let eS = line-same (kind-of (L .kind)) M (L .shift) free (bits-of (operand-at scratch (L .left))) (bits-of (operand-at scratch (L .right)))
-      (getD (u .operands) (L .left) []) (getD (u .operands) (L .right) []) (ok .columns i lt)
-      (λ j q. bit-at (operand-at scratch (L .left)) j ∙ operand-bits scratch (u .operands) (u .holds) (L .left) (omega (arith, u .operands-long, ok .lefts i lt)) j q)
-      (λ j q. bit-at (operand-at scratch (L .right)) j ∙ operand-bits scratch (u .operands) (u .holds) (L .right) (omega (arith, u .operands-long, ok .rights i lt)) j q) in
+      let eS = line-read scratch room free used count i u lt ok in
       let z : SumIs S from M (36 * (i + 1)) r scratch scratch′ room room′ = subst (λ (q : Sum). SumIs q from M (36 * (i + 1)) r scratch scratch′ room room′) eS y₁ in
       let ops = u .operands ++ (S .bits ∷ []) in
       let R = encoded (columns w) (lines-from recipe (i + 1) (n - (i + 1))) ops (r .next) in
@@ -241,7 +266,6 @@ module _ (w : ℕ) (recipe : List ℕ) (x : List Bit) (n next : ℕ) (room₀ : 
         room-same = k ∙ u .room-same;
         free-pos = omega (arith, z .grows, u .free-pos);
         grows = omega (arith, z .grows, u .grows);
-        free-small = omega (arith, z .next-few, u .free-small, ok .columns i lt);
         used-small = omega (arith, z .words-few, u .used-small, ok .columns i lt);
         count-small = omega (arith, z .clauses-few, u .count-small, ok .columns i lt);
       }

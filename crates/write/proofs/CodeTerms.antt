@@ -96,6 +96,21 @@ line-adds (suc (suc (suc zero))) s m next f left right lt rt p q el er ef =
     same-sum next (ap (λ (x : List ℕ). bits-of x) el ∙ plain-term left 0 m) (ap (λ (x : List ℕ). bits-of x) er ∙ negated-term right s m) (ap (λ (x : ℕ). bit-of x) ef ∙ bit-one)
 line-adds (suc (suc (suc (suc k)))) s m next f left right lt rt p q el er ef = absurd (omega arith)
 
+-- a line's two terms, in codes, which two arrays hold in their fronts
+pub line-terms : (l : Line) (m at : ℕ) (from : Place) (scratch : List ℕ) (lt rt : List ℕ) (ls rs f : ℕ) → CanLine l m at from scratch
+    → ls ≡ shift-of-left (l .kind) (l .shift) → rs ≡ shift-of-right (l .kind) (l .shift) → f ≡ taken-off (l .kind)
+    → lt ≡ sets (replicate 36 0) 0 (table (term-code (operand-at scratch (l .left)) ls 0) m)
+    → rt ≡ sets (replicate 36 0) 0 (table (term-code (operand-at scratch (l .right)) rs f) m)
+    → adder (bits-of (take m lt)) (bits-of (take m rt)) (bit-of f) (from .next)
+    ≡ line-sum (kind-of (l .kind)) m (bits-of (operand-at scratch (l .left))) (l .shift) (bits-of (operand-at scratch (l .right))) (from .next)
+line-terms l m at from scratch lt rt ls rs f p els ers ef elt ert =
+    let left = operand-at scratch (l .left) in
+    let right = operand-at scratch (l .right) in
+    let front : (h : ℕ → ℕ) → take m (sets (replicate 36 0) 0 (table h m)) ≡ table h m = λ h. take-sets (replicate 36 0) (table h m) m (length-table h m) (omega (arith, p .columns, length-replicate {A = ℕ} 36 0)) in
+    line-adds (l .kind) (l .shift) m (from .next) f left right (take m lt) (take m rt) (p .kind-least) (p .kind-most)
+    (ap (λ (x : List ℕ). take m x) elt ∙ (front (term-code left ls 0) ∙ ap (λ (x : ℕ). table (term-code left x 0) m) els))
+    (ap (λ (x : List ℕ). take m x) ert ∙ (front (term-code right rs f) ∙ ap₂ (λ (x y : ℕ). table (term-code right x y) m) ers ef)) ef
+
 -- a line from the sum of its terms, which two arrays hold in their fronts; its bits were stored in the rest of the scratch room from its place on
 pub line-is : (l : Line) (m at : ℕ) (from r : Place) (scratch part : List ℕ) (room room′ : List ℤ) (lt rt : List ℕ) (ls rs f : ℕ) → CanLine l m at from scratch
     → ls ≡ shift-of-left (l .kind) (l .shift) → rs ≡ shift-of-right (l .kind) (l .shift) → f ≡ taken-off (l .kind)
@@ -105,12 +120,7 @@ pub line-is : (l : Line) (m at : ℕ) (from r : Place) (scratch part : List ℕ)
     → SumIs (line-sum (kind-of (l .kind)) m (bits-of (operand-at scratch (l .left))) (l .shift) (bits-of (operand-at scratch (l .right))) (from .next))
     from m (36 * at) r scratch (putMid (36 * at) (length scratch - 36 * at) scratch part) room room′
 line-is l m at from r scratch part room room′ lt rt ls rs f p els ers ef elt ert g =
-    let left = operand-at scratch (l .left) in
-    let right = operand-at scratch (l .right) in
-    let front : (h : ℕ → ℕ) → take m (sets (replicate 36 0) 0 (table h m)) ≡ table h m = λ h. take-sets (replicate 36 0) (table h m) m (length-table h m) (omega (arith, p .columns, length-replicate {A = ℕ} 36 0)) in
-    let e = line-adds (l .kind) (l .shift) m (from .next) f left right (take m lt) (take m rt) (p .kind-least) (p .kind-most)
-    (ap (λ (x : List ℕ). take m x) elt ∙ (front (term-code left ls 0) ∙ ap (λ (x : ℕ). table (term-code left x 0) m) els))
-    (ap (λ (x : List ℕ). take m x) ert ∙ (front (term-code right rs f) ∙ ap₂ (λ (x y : ℕ). table (term-code right x y) m) ers ef)) ef in
+    let e = line-terms l m at from scratch lt rt ls rs f p els ers ef elt ert in
     subst (λ (s : Sum). SumIs s from m (36 * at) r scratch (putMid (36 * at) (length scratch - 36 * at) scratch part) room room′) e
     (record {
       codes = g .codes;
@@ -121,7 +131,6 @@ line-is l m at from r scratch part room room′ lt rt ls rs f p els ers ef elt e
       clauses-are = g .clauses-are;
       room-is = g .room-is;
       grows = g .grows;
-      next-few = g .next-few;
       words-few = g .words-few;
       clauses-few = g .clauses-few;
     })

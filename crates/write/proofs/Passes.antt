@@ -5,6 +5,7 @@ use mathlib.Core.Bool.{Bool, true, false, cond}
 use mathlib.Core.List.{List, [], _∷_, _++_, map, map-append}
 use native.Mathlib.Omega.{arith}
 use native.Mathlib.Nat.{add-zero, add-suc, suc-add}
+use native.Mathlib.Numerals.{add-one}
 use lib.Dec.{ltb}
 use lib.IntN.{ℤ, pos}
 use lib.ListN.{length, getD, take, drop, length-map, replicate, getD-replicate, length-replicate, List·getD-map, List·getD-eq-default}
@@ -12,20 +13,23 @@ use lib.Seq.{sets, ext-getD}
 use native.Mathlib.Decide.{decLt}
 use borrow.Author.Tests.{lt-ltb, le-ltb}
 use Rattle.cnf.specs.Clause.{new}
-use Rattle.cnf.specs.Words.{word, words}
-use Rattle.line.specs.declared.Refusal.the-variants.{BitRoom, ClauseRoom}
-use Rattle.product.specs.Bit.{Bit, fixed, unfixed, variables, stored}
+use Rattle.cnf.specs.Words.{word, words, literal-of-word}
+use Rattle.line.specs.declared.Refusal.the-variants.{BitRoom, ClauseRoom, Variables}
+use Rattle.product.specs.Bit.{Bit, fixed, unfixed, given, numbered, stored}
 use Rattle.product.specs.Lines.{shifted, columns, Encoded, encoded}
 use Rattle.product.specs.Product.{last, Product, product, lines-from, y-entries, clause-words}
-use Rattle.gates.specs.Code.{literal-of, bit-of, bits-of}
-use Rattle.write.specs.Terms.{table, shifted-code, operand-at, variable-code, y-entry}
-use Rattle.write.specs.Rooms.{LinesAre, PassIs}
-use Rattle.product.specs.Write.{Outcome, product-written}
+use Rattle.gates.specs.Code.{literal-of, bit-of, bits-of, code-of-word}
+use Rattle.write.specs.Terms.{table, shifted-code, operand-at, variable-code, given-code, plain-literal, y-entry}
+use Rattle.write.specs.Rooms.{Writable, LinesAre, CountsAre, CanPass, PassIs, CanWrite}
+use Rattle.product.specs.Write.{unfit, most-next, Outcome, product-written}
 use Rattle.write.specs.declared.lines.Place.{Place}
 use Rattle.product.specs.declared.Written.{Written}
 use Rattle.product.specs.declared.Written.the-variants.{Clauses, Refused}
 use Rattle.product.proofs.Lengths.{length-operands, length-lines}
+use Rattle.product.proofs.Nexts.{Narrow, encoded-few}
+use Rattle.product.proofs.Given.{fit-of, length-given, length-numbered, counts-as-numbered}
 use Rattle.gates.proofs.Codes.{bit-zero, bit-new, stored-word}
+use Rattle.gates.proofs.Given.{bits-given}
 use Rattle.gates.proofs.Stores.{over-front}
 use Rattle.write.proofs.Tables.{length-table, table-at, take-sets}
 use Rattle.write.proofs.CodeTerms.{shifted-at}
@@ -38,24 +42,39 @@ table-of-list x =
     let f : ℕ → ℕ = λ (j : ℕ). getD x j 0 in
     ext-getD 0 (table f (length x)) x (length-table f (length x)) (λ j h. table-at f (length x) j 0 (omega (arith, length-table f (length x))))
 
-variables-snoc : (v w : ℕ) → variables v (suc w) ≡ variables v w ++ (unfixed (new (v + w)) ∷ [])
-unfolding variables
-variables-snoc v zero = ap (λ (k : ℕ). unfixed (new k) ∷ []) (sym (add-zero v))
-variables-snoc v (suc w) =
-    ap (λ (l : List Bit). unfixed (new v) ∷ l) (variables-snoc (suc v) w ∙ ap (λ (k : ℕ). variables (suc v) w ++ (unfixed (new k) ∷ [])) (suc-add v w ∙ sym (add-suc v w)))
+numbered-snoc : (v w : ℕ) → numbered v (suc w) ≡ numbered v w ++ (pos (v + w) ∷ [])
+unfolding numbered
+numbered-snoc v zero = ap (λ (k : ℕ). pos k ∷ []) (sym (add-zero v))
+numbered-snoc v (suc w) =
+    ap (λ (l : List ℤ). pos v ∷ l) (numbered-snoc (suc v) w ∙ ap (λ (k : ℕ). numbered (suc v) w ++ (pos k ∷ [])) (suc-add v w ∙ sym (add-suc v w)))
 
-variables-none : [] ≡ variables 1 0
-unfolding variables
-variables-none = refl
+numbered-none : [] ≡ numbered 1 0
+unfolding numbered
+numbered-none = refl
 
--- document 01's x
-pub variable-bits : (w : ℕ) → bits-of (table variable-code w) ≡ variables 1 w
+-- document 01's x, as literals and as codes
+pub plain-literals : (w : ℕ) → table plain-literal w ≡ numbered 1 w
 unfolding table
-variable-bits zero = variables-none
+plain-literals zero = numbered-none
+plain-literals (suc w) = ap₂ (λ (l : List ℤ) (k : ℕ). l ++ (pos k ∷ [])) (plain-literals w) (omega arith) ∙ sym (numbered-snoc 1 w)
+
+pub variable-bits : (w : ℕ) → bits-of (table variable-code w) ≡ given (numbered 1 w)
+unfolding table
+variable-bits zero = ap (λ (l : List ℤ). given l) numbered-none
 variable-bits (suc w) =
     map-append bit-of (table variable-code w) (2 * (w + 1) ∷ [])
     ∙ (ap₂ (λ (l : List Bit) (b : Bit). l ++ (b ∷ [])) (variable-bits w) (bit-new (w + 1) (omega arith) ∙ ap (λ (k : ℕ). unfixed (new k)) (omega arith))
-    ∙ sym (variables-snoc 1 w))
+    ∙ (sym (map-append (λ (l : ℤ). unfixed (literal-of-word l)) (numbered 1 w) (pos (1 + w) ∷ [])) ∙ ap (λ (l : List ℤ). given l) (sym (numbered-snoc 1 w))))
+
+-- given literals as codes
+pub given-bits : (first : ℕ) (x : List ℤ) → unfit first x ≡ false → bits-of (table (given-code x) (length x)) ≡ given x
+given-bits first x e =
+    let f = given-code x in
+    let n = length x in
+    ap (λ (l : List ℕ). bits-of l)
+    (ext-getD 0 (table f n) (map code-of-word x) (length-table f n ∙ sym (length-map x code-of-word)) (λ j h.
+    table-at f n j 0 (omega (arith, length-table f n)) ∙ sym (List·getD-map code-of-word x j (pos 0))))
+    ∙ bits-given first x (fit-of first x e)
 
 -- x over zeros: it stands in the front, and behind it all is zero
 abbrev blank : List ℕ
@@ -144,36 +163,100 @@ module _ (recipe : List ℕ) (n : ℕ) (x : List ℕ) (next t : ℕ) where
         y-is = λ q. f q ∙ ap (λ (o : List ℤ). sets y 0 o) ye;
       })
 
--- ---- the answer and the rooms, by tests 9 and 10
+  -- what the pass asks of the lines
+  pub lines-fit : (k : ℕ) (scratch : List ℕ) → take (length x) scratch ≡ x → Product-made .next ≤ k
+      → encoded (columns (length x)) (lines-from recipe 0 n) (bits-of (take (length x) scratch) ∷ []) next .next ≤ k
+  lines-fit k scratch e h =
+      subst (λ (l : List ℕ). encoded (columns (length x)) (lines-from recipe 0 n) (bits-of l ∷ []) next .next ≤ k) (sym e)
+      (subst (λ (p : Product). p .next ≤ k) product-is h)
+
+-- ---- the pass that counts
+
+narrow-from : (w : ℕ) (recipe : List ℕ) (m i n : ℕ) → i + m ≤ n → Writable w recipe n → Narrow (columns w) 36 (lines-from recipe i m)
+unfolding lines-from
+narrow-from w recipe zero i n h ok = tt
+narrow-from w recipe (suc m) i n h ok = (ok .columns i (omega arith), narrow-from w recipe m (suc i) n (omega arith) ok)
+
+-- it starts low, so it stays low
+pub count-fits : (w : ℕ) (recipe : List ℕ) (n : ℕ) (x : List Bit) → w ≤ 16 → Writable w recipe n → encoded (columns w) (lines-from recipe 0 n) (x ∷ []) (w + 1) .next ≤ most-next
+count-fits w recipe n x h ok =
+    omega (
+      arith,
+      encoded-few (columns w) 36 (lines-from recipe 0 n) (x ∷ []) (w + 1) (narrow-from w recipe n 0 n (omega arith) ok),
+      length-lines recipe 0 n,
+      ok .few,
+    )
+
+-- what it counts is what the product over given literals needs
+pub record Needs (first : ℕ) (x : List ℤ) (p : Product) (r : Place) : Type 0 where
+  pub next : first + r .next - (length x + 1) ≡ p .next
+  pub words : r .words ≡ length (clause-words p)
+
+pub needs-of : (recipe : List ℕ) (n t first : ℕ) (x : List ℤ) (r : Place) → 0 < first → unfit first x ≡ false
+    → CountsAre (encoded (columns (length x)) (lines-from recipe 0 n) (given (numbered 1 (length x)) ∷ []) (length x + 1)) (length x + 1) r
+    → Needs first x (product t (lines-from recipe 0 n) (given x) first) r
+unfolding product
+needs-of recipe n t first x r h e k =
+    let w : ℕ = length x in
+    let ls = lines-from recipe 0 n in
+    let c = counts-as-numbered x first h (fit-of first x e) t ls in
+    let lw : length (given (numbered 1 w)) ≡ w = length-given (numbered 1 w) ∙ length-numbered 1 w in
+    let E : ℕ → ℕ → Encoded = λ (v m : ℕ). encoded (columns v) ls (given (numbered 1 w) ∷ []) m in
+    let same : E w (w + 1) ≡ E (length (given (numbered 1 w))) (suc w) = ap₂ E (sym lw) (add-one w) in
+    record {
+      next = omega (arith, k .next-is ∙ ap (λ (q : Encoded). q .next) same, c .next, k .grows);
+      words = k .words-are ∙ ap (λ (q : Encoded). length (words (q .clauses))) same ∙ sym (c .words);
+    }
+
+-- what the pass that writes asks, where x's codes stand in the front of an array
+module _ (recipe : List ℕ) (n : ℕ) (x : List ℤ) (first t size : ℕ) (w : CanWrite recipe n x first t size) (codes : List ℕ)
+    (e : codes ≡ sets (replicate 16 0) 0 (table (given-code x) (length x))) where
+  codes-are : take (length x) codes ≡ table (given-code x) (length x)
+  codes-are =
+      ap (λ (l : List ℕ). take (length x) l) e
+      ∙ take-sets (replicate 16 0) (table (given-code x) (length x)) (length x) (length-table (given-code x) (length x)) (omega (arith, w .width, length-replicate {A = ℕ} 16 0))
+
+  pub codes-long : length (take (length x) codes) ≡ length x
+  codes-long = ap (λ (l : List ℕ). length l) codes-are ∙ length-table (given-code x) (length x)
+
+  pub codes-bits : bits-of (take (length x) codes) ≡ given x
+  codes-bits = ap (λ (l : List ℕ). bits-of l) codes-are ∙ given-bits first x (w .fit)
+
+  pub can-pass : product t (lines-from recipe 0 n) (given x) first .next ≤ most-next → CanPass recipe n (take (length x) codes) first t size
+  can-pass h = record {
+    lines = subst (λ (k : ℕ). Writable k recipe n) (sym codes-long) (w .lines);
+    width = omega (arith, w .width, codes-long);
+    next-pos = w .first-pos;
+    next-fits = subst (λ (b : List Bit). product t (lines-from recipe 0 n) b first .next ≤ most-next) (sym codes-bits) h;
+    few-bits = w .few-bits;
+    bits = w .bits ∙ ap (λ (b : List Bit). length (product t (lines-from recipe 0 n) b first .y)) (sym codes-bits);
+  }
+
+-- ---- the answer and the rooms, by tests 15, 9 and 10
 
 -- an answer and two rooms that are an outcome's
 abbrev pub Ends : Outcome → Written → List ℤ → List ℤ → Type 0
 Ends o answer bits clauses = (answer ≡ o .answer) × ((bits ≡ o .bits) × (clauses ≡ o .clauses))
 
--- an empty part that came back
-pub empty-front : {A : Type 0} (p l : List A) → length p ≡ 0 → p ++ l ≡ l
-empty-front [] l e = refl
-empty-front (x ∷ p) l e = absurd (omega arith)
-
 module _ (p : Product) (size : ℕ) (bits clauses : List ℤ) where
-  pub bits-short : length bits < size → Ends (product-written p size bits clauses) (Refused BitRoom) bits clauses
-  bits-short h = rw (lt-ltb (length bits) size h) (refl, (refl, refl))
+  pub next-large : most-next < p .next → Ends (product-written p size bits clauses) (Refused Variables) bits clauses
+  next-large h = rw (lt-ltb most-next (p .next) h) (refl, (refl, refl))
 
-  pub clauses-short : size ≤ length bits → length clauses < length (clause-words p) → Ends (product-written p size bits clauses) (Refused ClauseRoom) bits clauses
-  clauses-short h k = rw (le-ltb (length bits) size h, lt-ltb (length clauses) (length (clause-words p)) k) (refl, (refl, refl))
+  module _ (n : p .next ≤ most-next) where
+    pub bits-short : length bits < size → Ends (product-written p size bits clauses) (Refused BitRoom) bits clauses
+    bits-short h = rw (le-ltb most-next (p .next) n, lt-ltb (length bits) size h) (refl, (refl, refl))
 
-  -- the rooms of the second pass are what the first gave back
-  pub both-fit : (r : Place) (bits₁ clauses₁ bits′ clauses′ : List ℤ) → bits₁ ≡ bits → clauses₁ ≡ clauses
-      → size ≡ length (p .y) → size ≤ length bits → length (clause-words p) ≤ length clauses
-      → PassIs p size r bits₁ bits′ clauses₁ clauses′
-      → Ends (product-written p size bits clauses) (Clauses (r .words) (r .clauses) (r .next - 1) size) bits′ clauses′
-  both-fit r bits₁ clauses₁ bits′ clauses′ eb ec es h k i =
-      let d : PassIs p size r bits bits′ clauses clauses′ =
-      subst (λ (b : List ℤ). PassIs p size r b bits′ clauses clauses′) eb (subst (λ (l : List ℤ). PassIs p size r bits₁ bits′ l clauses′) ec i) in
-      rw (le-ltb (length bits) size h, le-ltb (length clauses) (length (clause-words p)) k) (
-        ap₂ (λ (a b : ℕ). Clauses a b (r .next - 1) size) (d .words-are) (d .clauses-are) ∙ ap (λ (a : ℕ). Clauses (length (clause-words p)) (length (p .clauses)) (a - 1) size) (d .next-is),
-        (
-          d .y-is h ∙ over-front bits (y-entries p) (omega (arith, length-map (p .y) stored)),
-          d .room-is (omega (arith, d .words-are)) ∙ over-front clauses (clause-words p) k,
-        ),
-      )
+    pub clauses-short : size ≤ length bits → length clauses < length (clause-words p) → Ends (product-written p size bits clauses) (Refused ClauseRoom) bits clauses
+    clauses-short h k = rw (le-ltb most-next (p .next) n, le-ltb (length bits) size h, lt-ltb (length clauses) (length (clause-words p)) k) (refl, (refl, refl))
+
+    pub both-fit : (r : Place) (bits′ clauses′ : List ℤ) → size ≡ length (p .y) → size ≤ length bits → length (clause-words p) ≤ length clauses
+        → PassIs p size r bits bits′ clauses clauses′
+        → Ends (product-written p size bits clauses) (Clauses (r .words) (r .clauses) (r .next) size) bits′ clauses′
+    both-fit r bits′ clauses′ es h k d =
+        rw (le-ltb most-next (p .next) n, le-ltb (length bits) size h, le-ltb (length clauses) (length (clause-words p)) k) (
+          ap₂ (λ (a b : ℕ). Clauses a b (r .next) size) (d .words-are) (d .clauses-are) ∙ ap (λ (a : ℕ). Clauses (length (clause-words p)) (length (p .clauses)) a size) (d .next-is),
+          (
+            d .y-is h ∙ over-front bits (y-entries p) (omega (arith, length-map (p .y) stored)),
+            d .room-is (omega (arith, d .words-are)) ∙ over-front clauses (clause-words p) k,
+          ),
+        )

@@ -26,6 +26,7 @@ use Rattle.write.specs.Column.{made-clauses, MatchesColumn}
 use Rattle.write.specs.Rooms.{SumIs}
 use Rattle.write.specs.declared.column.MadeColumn.{MadeColumn}
 use Rattle.write.specs.declared.lines.Place.{Place}
+use Rattle.product.proofs.Nexts.{adder-grows}
 use Rattle.product.proofs.At.{rest, rest-step, rest-end, last-column, not-last}
 use Rattle.gates.proofs.Codes.{bit-at}
 use Rattle.gates.proofs.Stores.{sets-append, length-rest, length-put, lent}
@@ -48,7 +49,6 @@ pub record Upto (whole : Sum) (xs ys : List Bit) (from : Place) (sums₀ : List 
   pub room-same : length room ≡ length room₀
   pub free-pos : 0 < free
   pub grows : from .next ≤ free
-  pub free-small : free ≤ from .next + 2 * j
   pub used-small : used ≤ from .words + 80 * j
   pub n-small : n ≤ from .clauses + 16 * j
 
@@ -73,7 +73,6 @@ module _ (left right : List ℕ) (first m : ℕ) (from : Place) (sums₀ : List 
     room-same = refl;
     free-pos = h;
     grows = omega arith;
-    free-small = omega arith;
     used-small = omega arith;
     n-small = omega arith;
   }
@@ -84,6 +83,26 @@ module _ (left right : List ℕ) (first m : ℕ) (from : Place) (sums₀ : List 
       (λ (e : suc j ≡ m). last-column (bits-of left) (suc j) (omega (arith, length-map left bit-of)) ∙ sym (eq-eqb (j + 1) m (omega arith)))
       (λ (l : suc j < m). not-last (bits-of left) (suc j) (omega (arith, length-map left bit-of)) ∙ sym (ne-eqb (j + 1) m (λ e. omega arith)))
       (eq-or-lt-of-le {n = suc j} {m = m} h)
+
+  column-at : (carry free j : ℕ) → j < m
+      → column (getD (bits-of left) j (fixed false)) (getD (bits-of right) j (fixed false)) (bit-of carry) (none-left (drop (suc j) (bits-of left))) free
+      ≡ column (bit-of (getD left j 0)) (bit-of (getD right j 0)) (bit-of carry) (eqb (j + 1) m) free
+  column-at carry free j h =
+      ap₂ (λ (a b : Bit). column a b (bit-of carry) (none-left (drop (suc j) (bits-of left))) free) (bit-at left j) (bit-at right j)
+      ∙ ap (λ (t : Bool). column (bit-of (getD left j 0)) (bit-of (getD right j 0)) (bit-of carry) t free) (last-is j h)
+
+  -- a column's next free variable is at most that of the whole
+  pub column-fits : (sums : List ℕ) (room : List ℤ) (carry free used n j k : ℕ) → j < m
+      → Upto whole (bits-of left) (bits-of right) from sums₀ room₀ sums room carry free used n j → whole .next ≤ k
+      → column (bit-of (getD left j 0)) (bit-of (getD right j 0)) (bit-of carry) (eqb (j + 1) m) free .next ≤ k
+  unfolding rest
+  column-fits sums room carry free used n j k h u f =
+      let xs = bits-of left in
+      let ys = bits-of right in
+      let col = column (bit-of (getD left j 0)) (bit-of (getD right j 0)) (bit-of carry) (eqb (j + 1) m) free in
+      let e : column (getD xs j (fixed false)) (getD ys j (fixed false)) (bit-of carry) (none-left (drop (suc j) xs)) free ≡ col = column-at carry free j h in
+      let s = rest-step xs ys j (bit-of carry) free col (omega (arith, length-map left bit-of)) (omega (arith, length-map right bit-of)) e in
+      omega (arith, f, u .next-is, s .2, adder-grows (drop (suc j) xs) (drop (suc j) ys) (col .carry-bit) (col .next) .0)
 
   -- one column more, lent the rest of the room from `start` on
   pub more : (sums : List ℕ) (room : List ℤ) (carry free used n j : ℕ) → j < m
@@ -101,9 +120,7 @@ module _ (left right : List ℕ) (first m : ℕ) (from : Place) (sums₀ : List 
       let xs = bits-of left in
       let ys = bits-of right in
       let col = column (bit-of (getD left j 0)) (bit-of (getD right j 0)) (bit-of carry) (eqb (j + 1) m) free in
-      let e : column (getD xs j (fixed false)) (getD ys j (fixed false)) (bit-of carry) (none-left (drop (suc j) xs)) free ≡ col =
-      ap₂ (λ (a b : Bit). column a b (bit-of carry) (none-left (drop (suc j) xs)) free) (bit-at left j) (bit-at right j)
-      ∙ ap (λ (t : Bool). column (bit-of (getD left j 0)) (bit-of (getD right j 0)) (bit-of carry) t free) (last-is j h) in
+      let e : column (getD xs j (fixed false)) (getD ys j (fixed false)) (bit-of carry) (none-left (drop (suc j) xs)) free ≡ col = column-at carry free j h in
       let s = rest-step xs ys j (bit-of carry) free col (omega (arith, length-map left bit-of)) (omega (arith, length-map right bit-of)) e in
       let R = rest xs ys (j + 1) (bit-of (c .carry)) (c .next) in
       let same : rest xs ys (suc j) (col .carry-bit) (col .next) ≡ R =
@@ -140,7 +157,6 @@ module _ (left right : List ℕ) (first m : ℕ) (from : Place) (sums₀ : List 
         room-same = length-put room part start le same-part ∙ u .room-same;
         free-pos = omega (arith, g .grows, u .free-pos);
         grows = omega (arith, g .grows, u .grows);
-        free-small = omega (arith, g .few, u .free-small);
         used-small = omega (arith, needs, few, u .used-small);
         n-small = omega (arith, counts, few, u .n-small);
       }
@@ -160,7 +176,6 @@ module _ (left right : List ℕ) (first m : ℕ) (from : Place) (sums₀ : List 
         clauses-are = u .n-is ∙ ap (λ (x : List Clause). from .clauses + length x) (sym cl);
         room-is = λ h. u .room-is h ∙ ap (λ (x : List Clause). sets room₀ (from .words) (words x)) (sym cl);
         grows = u .grows;
-        next-few = omega (arith, u .free-small);
         words-few = omega (arith, u .used-small);
         clauses-few = omega (arith, u .n-small);
       }

@@ -56,7 +56,6 @@ pub record MatchesBit (n : ℕ) (m : MadeBit) (k : Made) : Type 0 where
   pub clauses : gate-clauses (m .gate) ≡ k .clauses
   pub next : m .next ≡ k .next
   pub grows : n ≤ m .next
-  pub few : m .next ≤ n + 1
 
 abbrev pub made-clauses : MadeColumn → List Clause
 made-clauses c = column-clauses (c .parity) (c .majority)
@@ -67,4 +66,3 @@ pub record MatchesColumn (n : ℕ) (c : MadeColumn) (k : Column) : Type 0 where
   pub clauses : made-clauses c ≡ k .clauses
   pub next : c .next ≡ k .next
   pub grows : n ≤ c .next
-  pub few : c .next ≤ n + 2

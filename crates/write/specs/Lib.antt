@@ -1,3 +1,3 @@
 pub mod Column
-pub mod Rooms
 pub mod Terms
+pub mod Rooms

@@ -2,28 +2,31 @@
 use Prim.Native.Nat.{ℕ, _+_, _*_, _≤_, _<_}
 use mathlib.Core.Path.{_≡_}
 use mathlib.Core.Bool.{false}
-use mathlib.Core.List.{List, [], map}
-use lib.ListN.{length, getD}
+use mathlib.Core.List.{List, [], _∷_, map}
+use lib.ListN.{length, getD, take}
 use lib.IntN.{ℤ}
 use lib.Seq.{sets}
+use Rattle.line.specs.Line.{kind-of}
 use Rattle.line.specs.declared.Line.{Line}
 use Rattle.recipe.specs.Check.{line-at}
 use Rattle.cnf.specs.Words.{words}
-use Rattle.product.specs.Bit.{Bit, fixed, stored}
-use Rattle.product.specs.Lines.{Sum, columns, Encoded}
+use Rattle.product.specs.Bit.{Bit, fixed, given, stored}
+use Rattle.product.specs.Lines.{Sum, adder, line-sum, columns, Encoded, encoded}
 use Rattle.product.specs.Product.{Product, product, lines-from}
+use Rattle.product.specs.Write.{unfit, most-next}
 use Rattle.gates.specs.Code.{bit-of, bits-of}
+use Rattle.write.specs.Terms.{operand-at}
 use Rattle.write.specs.declared.lines.Place.{Place}
 
 -- ---- a sum of m columns, from a place on
 
-pub record CanSum (left right : List ℕ) (from : Place) (m : ℕ) (sums : List ℕ) : Type 0 where
+pub record CanSum (left right : List ℕ) (first : ℕ) (from : Place) (m : ℕ) (sums : List ℕ) : Type 0 where
   pub columns : m ≤ 64
   pub lefts : length left ≡ m
   pub rights : length right ≡ m
   pub bits : m ≤ length sums
   pub next-pos : 0 < from .next
-  pub next-small : from .next ≤ 500000
+  pub next-fits : adder (bits-of left) (bits-of right) (bit-of first) (from .next) .next ≤ most-next
   pub words-small : from .words ≤ 500000
   pub clauses-small : from .clauses ≤ 500000
 
@@ -37,7 +40,6 @@ pub record SumIs (s : Sum) (from : Place) (m at : ℕ) (r : Place) (sums sums′
   pub clauses-are : r .clauses ≡ from .clauses + length (s .clauses)
   pub room-is : r .words ≤ length room → room′ ≡ sets room (from .words) (words (s .clauses))
   pub grows : from .next ≤ r .next
-  pub next-few : r .next ≤ from .next + 2 * m
   pub words-few : r .words ≤ from .words + 80 * m
   pub clauses-few : r .clauses ≤ from .clauses + 16 * m
 
@@ -52,7 +54,7 @@ pub record CanLine (l : Line) (m at : ℕ) (from : Place) (scratch : List ℕ) :
   pub rights : 36 * l .right + 36 ≤ length scratch
   pub bits : 36 * at + 36 ≤ length scratch
   pub next-pos : 0 < from .next
-  pub next-small : from .next ≤ 500000
+  pub next-fits : line-sum (kind-of (l .kind)) m (bits-of (operand-at scratch (l .left))) (l .shift) (bits-of (operand-at scratch (l .right))) (from .next) .next ≤ most-next
   pub words-small : from .words ≤ 500000
   pub clauses-small : from .clauses ≤ 500000
 
@@ -77,7 +79,7 @@ pub record CanLines (recipe : List ℕ) (n w next : ℕ) (scratch : List ℕ) : 
   pub lines : Writable w recipe n
   pub width : w ≤ 16
   pub next-pos : 0 < next
-  pub next-small : next ≤ 400000
+  pub next-fits : encoded (columns w) (lines-from recipe 0 n) (bits-of (take w scratch) ∷ []) next .next ≤ most-next
   pub long : length scratch ≡ 1188
   pub blank : (j : ℕ) → w ≤ j → getD scratch j 0 ≡ 0
 
@@ -89,13 +91,20 @@ pub record LinesAre (e : Encoded) (next : ℕ) (r : Place) (scratch : List ℕ) 
   pub held : Holds scratch (e .operands)
   pub grows : next ≤ r .next
 
+-- what is counted of lines, from a first free variable on
+pub record CountsAre (e : Encoded) (next : ℕ) (r : Place) : Type 0 where
+  pub next-is : r .next ≡ e .next
+  pub words-are : r .words ≡ length (words (e .clauses))
+  pub clauses-are : r .clauses ≡ length (e .clauses)
+  pub grows : next ≤ r .next
+
 -- ---- a pass over a recipe; size is the number of y's bits
 
 pub record CanPass (recipe : List ℕ) (n : ℕ) (x : List ℕ) (next t size : ℕ) : Type 0 where
   pub lines : Writable (length x) recipe n
   pub width : length x ≤ 16
   pub next-pos : 0 < next
-  pub next-small : next ≤ 400000
+  pub next-fits : product t (lines-from recipe 0 n) (bits-of x) next .next ≤ most-next
   pub few-bits : size ≤ t + 36
   pub bits : size ≡ length (product t (lines-from recipe 0 n) (bits-of x) next .y)
 
@@ -107,3 +116,13 @@ pub record PassIs (p : Product) (size : ℕ) (r : Place) (y y′ room room′ : 
   pub clauses-are : r .clauses ≡ length (p .clauses)
   pub room-is : r .words ≤ length room → room′ ≡ sets room 0 (words (p .clauses))
   pub y-is : size ≤ length y → y′ ≡ sets y 0 (map stored (p .y))
+
+-- ---- writing behind the check: x is given literals
+
+pub record CanWrite (recipe : List ℕ) (n : ℕ) (x : List ℤ) (first t size : ℕ) : Type 0 where
+  pub lines : Writable (length x) recipe n
+  pub width : length x ≤ 16
+  pub fit : unfit first x ≡ false
+  pub first-pos : 0 < first
+  pub few-bits : size ≤ t + 36
+  pub bits : size ≡ length (product t (lines-from recipe 0 n) (given x) first .y)

@@ -86,7 +86,7 @@ pub struct MadeColumn {
 
 // f is the sum of the fixed inputs, z the next free variable.
 fn sum_bit(o: Unfixed, f: u32, z: u32) -> MadeBit
-    requires { ⌜ NoneFixed o × (0 < z) × (z ≤ 1073741824) ⌝ }
+    requires { ⌜ NoneFixed o × (0 < z) × (sum f (unfixed-literals o) z .next ≤ 2147483648) ⌝ }
     ensures { λ r. ⌜ MatchesBit z r (sum f (unfixed-literals o) z) ⌝ }
 {
     match o {
@@ -131,7 +131,7 @@ fn carry_of_one(p: u32, f: u32) -> u32
 
 // One of p and q is both of their negations, negated.
 fn carry_bit(o: Unfixed, f: u32, t: u32) -> MadeBit
-    requires { ⌜ NoneFixed o × (f + length (unfixed-literals o) ≤ 3) × (0 < t) × (t ≤ 1073741824) ⌝ }
+    requires { ⌜ NoneFixed o × (f + length (unfixed-literals o) ≤ 3) × (0 < t) × (carry f (unfixed-literals o) t .next ≤ 2147483648) ⌝ }
     ensures { λ r. ⌜ MatchesBit t r (carry f (unfixed-literals o) t) ⌝ }
 {
     match o {
@@ -160,7 +160,7 @@ fn carry_bit(o: Unfixed, f: u32, t: u32) -> MadeBit
 
 // The sum before the carry, and no carry in the last column.
 pub(crate) fn column(left: u32, right: u32, carry: u32, last: bool, next: u32) -> MadeColumn
-    requires { ⌜ (0 < next) × (next ≤ 1000000) ⌝ }
+    requires { ⌜ (0 < next) × (column (bit-of left) (bit-of right) (bit-of carry) last next .next ≤ 2147483648) ⌝ }
     ensures { λ r. ⌜ MatchesColumn next r (column (bit-of left) (bit-of right) (bit-of carry) last next) ⌝ }
 {
     let i = inputs_of(left, right, carry);

@@ -4,18 +4,25 @@ mod column;
 mod lines;
 
 ghost use mathlib.Core.Path.{_≡_};
+ghost use mathlib.Core.Bool.{false};
+ghost use mathlib.Core.List.{[], _∷_};
 ghost use Prim.Native.Nat.{_+_, _≤_, _<_};
-ghost use lib.ListN.{length};
+ghost use lib.ListN.{length, drop};
 ghost use lib.Seq.{sets};
-ghost use Rattle.gates.specs.Code.{bits-of};
+ghost use Rattle.gates.specs.Code.{bits-of, code-of-word};
 ghost use Rattle.product.specs.Product.{product, lines-from};
-ghost use Rattle.product.specs.Write.{product-written, written};
-ghost use Rattle.write.specs.Terms.{table, variable-code, y-entry};
-ghost use Rattle.write.specs.Rooms.{CanPass, PassIs};
+ghost use Rattle.product.specs.Bit.{given, numbered};
+ghost use Rattle.product.specs.Lines.{columns, encoded};
+ghost use Rattle.cnf.specs.Words.{named, names};
+ghost use Rattle.product.specs.Write.{unfit, most-next, product-written, written, plain-written};
+ghost use Rattle.write.specs.Terms.{table, variable-code, given-code, plain-literal, unfit-at, y-entry};
+ghost use Rattle.write.specs.Rooms.{Writable, CountsAre, CanPass, PassIs, CanWrite};
 use crate::lines::MOST_COLUMNS;
 use crate::lines::Place;
 use crate::lines::largest;
+use crate::lines::least;
 use crate::lines::write_lines;
+use gates::named;
 use gates::word;
 use line::Line;
 use line::Refusal;
@@ -87,45 +94,15 @@ fn pass(
     r
 }
 
-// The first pass is lent empty parts of the rooms, so that it only counts; the second writes.
-fn write_product(
-    recipe: &[u8],
-    n: usize,
-    x: &[u32],
-    next: u32,
-    t: usize,
-    size: usize,
-    bits: &mut [i32],
-    clauses: &mut [i32],
-) -> Written
-    requires { ⌜ CanPass (now recipe) n (now x) next t size ⌝ }
-    ensures { λ r. ⌜ r ≡ product-written (product t (lines-from (now (recipe .entry)) 0 n) (bits-of (now (x .entry))) next) size (now (bits .entry)) (now (clauses .entry)) .answer ⌝ }
-    ensures { λ r. ⌜ now (bits .exit) ≡ product-written (product t (lines-from (now (recipe .entry)) 0 n) (bits-of (now (x .entry))) next) size (now (bits .entry)) (now (clauses .entry)) .bits ⌝ }
-    ensures { λ r. ⌜ now (clauses .exit) ≡ product-written (product t (lines-from (now (recipe .entry)) 0 n) (bits-of (now (x .entry))) next) size (now (bits .entry)) (now (clauses .entry)) .clauses ⌝ }
+// What the lines of a recipe need, whatever the names: x is the variables 1 to w, and nothing is written.
+fn counted(recipe: &[u8], n: usize, w: usize) -> Place
+    requires { ⌜ Writable w (now recipe) n × (w ≤ 16) ⌝ }
+    ensures { λ r. ⌜ CountsAre (encoded (columns w) (lines-from (now (recipe .entry)) 0 n) (given (numbered 1 w) ∷ []) (w + 1)) (w + 1) r ⌝ }
 {
-    if bits.len() < size {
-        return Written::Refused(Refusal::BitRoom);
-    }
-    let need = pass(
-        recipe,
-        n,
-        x,
-        next,
-        t,
-        size,
-        &mut bits[0..0],
-        &mut clauses[0..0],
-    );
-    if clauses.len() < need.words {
-        return Written::Refused(Refusal::ClauseRoom);
-    }
-    let done = pass(recipe, n, x, next, t, size, bits, clauses);
-    Written::Clauses {
-        words: done.words,
-        clauses: done.clauses,
-        highest: done.next - 1,
-        bits: size,
-    }
+    let mut scratch = [0u32; MOST_COLUMNS * (Line::MOST_LINES + 1)];
+    variables(w, &mut scratch);
+    let mut room = [0i32; 1];
+    write_lines(recipe, n, w, w as u32 + 1, &mut scratch, &mut room[0..0])
 }
 
 // The codes of the variables 1 to w.
@@ -140,11 +117,132 @@ fn variables(w: usize, out: &mut [u32])
     }
 }
 
-// Writes the clauses of a recipe for c at width w: x is the variables 1 to w. Rules 1, 2, then 3 to 8 by the check, 9 and 10.
-pub fn write(c: u64, w: u32, recipe: &[u8], bits: &mut [i32], clauses: &mut [i32]) -> Written
-    ensures { λ r. ⌜ r ≡ written c w (now (recipe .entry)) (now (bits .entry)) (now (clauses .entry)) .answer ⌝ }
-    ensures { λ r. ⌜ now (bits .exit) ≡ written c w (now (recipe .entry)) (now (bits .entry)) (now (clauses .entry)) .bits ⌝ }
-    ensures { λ r. ⌜ now (clauses .exit) ≡ written c w (now (recipe .entry)) (now (bits .entry)) (now (clauses .entry)) .clauses ⌝ }
+// The code of a literal; the least i32, which names 2^31, has none.
+fn code(l: i32) -> u32
+    requires { ⌜ named l < 2147483648 ⌝ }
+    ensures { λ r. ⌜ r ≡ code-of-word l ⌝ }
+{
+    let v = named(l) as u32;
+    if l < 0 {
+        return 2 * v + 1;
+    }
+    2 * v
+}
+
+// The codes of given literals.
+fn codes(first: u32, x: &[i32], out: &mut [u32])
+    requires { ⌜ (unfit first (now x) ≡ false) × (first ≤ most-next) × (length (now x) ≤ length (now out)) ⌝ }
+    ensures { λ _. ⌜ now (out .exit) ≡ sets (now (out .entry)) 0 (table (given-code (now (x .entry))) (length (now (x .entry)))) ⌝ }
+{
+    let mut j = 0;
+    while j < x.len() {
+        out[j] = code(x[j]);
+        j = j + 1;
+    }
+}
+
+// The next free number is at most this.
+const MOST_NEXT: u64 = 2_147_483_648;
+
+// Rules 15, 9 and 10 by what the lines need; then the pass that writes, with the real numbers.
+fn write_product(
+    recipe: &[u8],
+    n: usize,
+    x: &[i32],
+    first: u32,
+    t: usize,
+    size: usize,
+    bits: &mut [i32],
+    clauses: &mut [i32],
+) -> Written
+    requires { ⌜ CanWrite (now recipe) n (now x) first t size ⌝ }
+    ensures { λ r. ⌜ r ≡ product-written (product t (lines-from (now (recipe .entry)) 0 n) (given (now (x .entry))) first) size (now (bits .entry)) (now (clauses .entry)) .answer ⌝ }
+    ensures { λ r. ⌜ now (bits .exit) ≡ product-written (product t (lines-from (now (recipe .entry)) 0 n) (given (now (x .entry))) first) size (now (bits .entry)) (now (clauses .entry)) .bits ⌝ }
+    ensures { λ r. ⌜ now (clauses .exit) ≡ product-written (product t (lines-from (now (recipe .entry)) 0 n) (given (now (x .entry))) first) size (now (bits .entry)) (now (clauses .entry)) .clauses ⌝ }
+{
+    let w = x.len();
+    let need = counted(recipe, n, w);
+    let next = first as u64 + need.next as u64 - (w as u64 + 1);
+    if next > MOST_NEXT {
+        return Written::Refused(Refusal::Variables);
+    }
+    if bits.len() < size {
+        return Written::Refused(Refusal::BitRoom);
+    }
+    if clauses.len() < need.words {
+        return Written::Refused(Refusal::ClauseRoom);
+    }
+    let mut given = [0u32; Line::MOST_WIDTH as usize];
+    codes(first, x, &mut given);
+    let done = pass(recipe, n, &given[..w], first, t, size, bits, clauses);
+    Written::Clauses {
+        words: done.words,
+        clauses: done.clauses,
+        next: done.next,
+        bits: size,
+    }
+}
+
+// ---- literals for x
+
+// Whether a literal from place i on names variable v.
+fn names(v: u64, x: &[i32], i: usize) -> bool
+    ensures { λ r. ⌜ r ≡ names v (drop i (now (x .entry))) ⌝ }
+{
+    let mut k = i;
+    while k < x.len() {
+        if named(x[k]) == v {
+            return true;
+        }
+        k = k + 1;
+    }
+    false
+}
+
+// Whether literal i is 0, or its variable isn't below first, or a later literal names it.
+fn unfit_at(first: u32, x: &[i32], i: usize) -> bool
+    requires { ⌜ i < length (now x) ⌝ }
+    ensures { λ r. ⌜ r ≡ unfit-at first (now (x .entry)) i ⌝ }
+{
+    let v = named(x[i]);
+    if v == 0 {
+        return true;
+    }
+    if first as u64 <= v {
+        return true;
+    }
+    names(v, x, i + 1)
+}
+
+fn unfit(first: u32, x: &[i32]) -> bool
+    ensures { λ r. ⌜ r ≡ unfit first (now (x .entry)) ⌝ }
+{
+    let mut i = 0;
+    while i < x.len() {
+        if unfit_at(first, x, i) {
+            return true;
+        }
+        i = i + 1;
+    }
+    false
+}
+
+// ---- the calls
+
+// Writes the clauses of a recipe for c at width w: x is w literals, and first the first free number. Rules 1, 2, 14, then 3 to 8 by the
+// check, 15, 9 and 10.
+pub fn write(
+    c: u64,
+    w: u32,
+    x: &[i32],
+    first: u32,
+    recipe: &[u8],
+    bits: &mut [i32],
+    clauses: &mut [i32],
+) -> Written
+    ensures { λ r. ⌜ r ≡ written c w (now (x .entry)) first (now (recipe .entry)) (now (bits .entry)) (now (clauses .entry)) .answer ⌝ }
+    ensures { λ r. ⌜ now (bits .exit) ≡ written c w (now (x .entry)) first (now (recipe .entry)) (now (bits .entry)) (now (clauses .entry)) .bits ⌝ }
+    ensures { λ r. ⌜ now (clauses .exit) ≡ written c w (now (x .entry)) first (now (recipe .entry)) (now (bits .entry)) (now (clauses .entry)) .clauses ⌝ }
 {
     if c == 0 {
         return Written::Refused(Refusal::Constant);
@@ -158,23 +256,41 @@ pub fn write(c: u64, w: u32, recipe: &[u8], bits: &mut [i32], clauses: &mut [i32
     if (w as u64) > Line::MOST_WIDTH {
         return Written::Refused(Refusal::Width);
     }
+    if x.len() != w as usize {
+        return Written::Refused(Refusal::Literals);
+    }
+    if unfit(first, x) {
+        return Written::Refused(Refusal::Literals);
+    }
     match recipe::check_lines(line::odd_part(c), recipe) {
         Checked::Accepted => {}
-        Checked::Refused(x) => return Written::Refused(x),
+        Checked::Refused(r) => return Written::Refused(r),
     }
     let n = recipe.len() / Line::BYTES;
-    let k = w as usize;
-    let size = line::bit_length(c * largest(k));
-    let mut x = [0u32; Line::MOST_WIDTH as usize];
-    variables(k, &mut x);
-    write_product(
-        recipe,
-        n,
-        &x[..k],
-        w + 1,
-        line::twos(c),
-        size,
-        bits,
-        clauses,
-    )
+    let size = line::bit_length(c * largest(w as usize));
+    write_product(recipe, n, x, first, line::twos(c), size, bits, clauses)
+}
+
+// The variables 1 to w as literals.
+fn literals(w: usize, out: &mut [i32])
+    requires { ⌜ (w ≤ 16) × (w ≤ length (now out)) ⌝ }
+    ensures { λ _. ⌜ now (out .exit) ≡ sets (now (out .entry)) 0 (table plain-literal w) ⌝ }
+{
+    let mut j = 0;
+    while j < w {
+        out[j] = (j + 1) as i32;
+        j = j + 1;
+    }
+}
+
+// Document 01's call: x is the variables 1 to w.
+pub fn write_plain(c: u64, w: u32, recipe: &[u8], bits: &mut [i32], clauses: &mut [i32]) -> Written
+    ensures { λ r. ⌜ r ≡ plain-written c w (now (recipe .entry)) (now (bits .entry)) (now (clauses .entry)) .answer ⌝ }
+    ensures { λ r. ⌜ now (bits .exit) ≡ plain-written c w (now (recipe .entry)) (now (bits .entry)) (now (clauses .entry)) .bits ⌝ }
+    ensures { λ r. ⌜ now (clauses .exit) ≡ plain-written c w (now (recipe .entry)) (now (bits .entry)) (now (clauses .entry)) .clauses ⌝ }
+{
+    let k = least(w as usize, Line::MOST_WIDTH as usize);
+    let mut x = [0i32; Line::MOST_WIDTH as usize];
+    literals(k, &mut x);
+    write(c, w, &x[..k], k as u32 + 1, recipe, bits, clauses)
 }

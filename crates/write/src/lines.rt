@@ -25,8 +25,8 @@ pub struct Place {
     pub clauses: usize,
 }
 
-// Where the rest of a room of b words starts after a of them, also where a are too many.
-fn least(a: usize, b: usize) -> usize
+// The lesser of two. Where the rest of a room of b words starts after a of them, also where a are too many.
+pub(crate) fn least(a: usize, b: usize) -> usize
     ensures { λ r. ⌜ (r ≤ b) × (a ≤ b → r ≡ a) ⌝ }
 {
     if a <= b { a } else { b }
@@ -43,7 +43,7 @@ fn write_sum(
     sums: &mut [u32],
     room: &mut [i32],
 ) -> Place
-    requires { ⌜ CanSum (now left) (now right) from m (now sums) ⌝ }
+    requires { ⌜ CanSum (now left) (now right) first from m (now sums) ⌝ }
     ensures { λ r. ⌜ SumIs (adder (bits-of (now (left .entry))) (bits-of (now (right .entry))) (bit-of first) (from .next)) from m 0 r (now (sums .entry)) (now (sums .exit)) (now (room .entry)) (now (room .exit)) ⌝ }
 {
     let mut carry = first;

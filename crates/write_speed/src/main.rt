@@ -1,9 +1,10 @@
-// Writes recipes again and again, for bench/run to time: reads how often (2 bytes, most significant first) and records of c (4 bytes), the recipe's
-// length and the recipe; writes each at width 16 so often, in rooms that are never too short, and prints the words of all, modulo 2^32,
-// with one more for each time that the middle word ends a clause.
+// Writes recipes again and again, for bench/run to time: reads how often (2 bytes, most significant first), the call (an even byte for document 01's,
+// an odd one for that over given literals) and records of c (4 bytes), the recipe's length and the recipe; writes each at width 16 so often, in rooms
+// that are never too short, and prints the words of all, modulo 2^32, with one more for each time that the middle word ends a clause.
 
 use libc::STDIN_FILENO;
 use libc::STDOUT_FILENO;
+use product::Written;
 ghost use mathlib.Core.Path.{_≡_};
 ghost use Prim.Native.Nat.{_<_, _≤_, _^_};
 ghost use lib.ListN.{length};
@@ -38,15 +39,22 @@ fn end(records: &[u8]) -> usize
     if records.len() - 5 < n { 0 } else { 5 + n }
 }
 
+// Document 01's call where no literals are given.
+fn written(c: u64, x: &[i32], recipe: &[u8], bits: &mut [i32], clauses: &mut [i32]) -> Written {
+    if x.len() == 0 {
+        return write::write_plain(c, 16, recipe, bits, clauses);
+    }
+    write::write(c, 16, x, 1000, recipe, bits, clauses)
+}
+
 // Writes the recipe of a record; answers its words, and one more where the word in the middle ends a clause: the room is looked at, so that no
 // compiler can leave the writing out.
-fn words(part: &[u8], bits: &mut [i32], clauses: &mut [i32]) -> u64 {
+fn words(x: &[i32], part: &[u8], bits: &mut [i32], clauses: &mut [i32]) -> u64 {
     if part.len() < 5 {
         return 0;
     }
-    let c = constant(part);
-    let written = write::write(c, 16, &part[5..], bits, clauses);
-    let n = written.counts().words % 4294967296;
+    let done = written(constant(part), x, &part[5..], bits, clauses);
+    let n = done.counts().words % 4294967296;
     let k = n / 2;
     if clauses.len() <= k {
         return 0;
@@ -59,7 +67,7 @@ fn words(part: &[u8], bits: &mut [i32], clauses: &mut [i32]) -> u64 {
 }
 
 // Writes every record once; answers the words of all.
-fn once(records: &[u8], bits: &mut [i32], clauses: &mut [i32]) -> u64
+fn once(x: &[i32], records: &[u8], bits: &mut [i32], clauses: &mut [i32]) -> u64
     ensures { λ r. ⌜ r < 2 ^ 32 ⌝ }
 {
     let mut at = 0;
@@ -70,25 +78,51 @@ fn once(records: &[u8], bits: &mut [i32], clauses: &mut [i32]) -> u64
             return total;
         }
         let e = at + n;
-        total = (total + words(&records[at..e], bits, clauses) % 4294967296) % 4294967296;
+        total = (total + words(x, &records[at..e], bits, clauses) % 4294967296) % 4294967296;
         at = e;
     }
     total
 }
 
 // Writes every record so often.
-fn often(times: u64, records: &[u8], bits: &mut [i32], clauses: &mut [i32]) -> u64 {
+fn often(times: u64, x: &[i32], records: &[u8], bits: &mut [i32], clauses: &mut [i32]) -> u64 {
     let mut total = 0;
     for _ in 0..times {
-        total = (total + once(records, bits, clauses)) % 4294967296;
+        total = (total + once(x, records, bits, clauses)) % 4294967296;
     }
     total
+}
+
+// With no literals, or with those of a panel's own variables.
+fn by_call(call: u64, times: u64, records: &[u8], bits: &mut [i32], clauses: &mut [i32]) -> u64 {
+    let x = [
+        40,
+        -39,
+        38,
+        -37,
+        36,
+        -35,
+        34,
+        -33,
+        32,
+        -31,
+        30,
+        -29,
+        28,
+        -27,
+        26,
+        -25,
+    ];
+    if call % 2 == 0 {
+        return often(times, &x[0..0], records, bits, clauses);
+    }
+    often(times, &x, records, bits, clauses)
 }
 
 fn main() {
     let mut input = io::large_buffer();
     let n = io::read_full(STDIN_FILENO, &mut input);
-    if n < 2 {
+    if n < 3 {
         return;
     }
     let times = wide(input[0]) * 256 + wide(input[1]);
@@ -96,7 +130,7 @@ fn main() {
     let mut clauses = clause_room();
     io::print_decimal(
         STDOUT_FILENO,
-        often(times, &input[2..n], &mut bits, &mut clauses),
+        by_call(wide(input[2]), times, &input[3..n], &mut bits, &mut clauses),
     );
     io::write_all(STDOUT_FILENO, b"\n");
 }

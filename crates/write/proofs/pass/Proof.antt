@@ -8,7 +8,7 @@ use Rattle.product.specs.Lines.{columns, encoded}
 use Rattle.product.specs.Product.{lines-from}
 use Rattle.gates.specs.Code.{bits-of}
 use Rattle.write.specs.Rooms.{LinesAre}
-use Rattle.write.proofs.Passes.{x-in-front, zeros-behind, pass-is}
+use Rattle.write.proofs.Passes.{x-in-front, zeros-behind, pass-is, lines-fit}
 use borrow.Author.Needs.{needs}
 use Rattle.write.proofs.pass.Statement.{statement}
 use Rattle.write.proofs.pass.Tie as tie
@@ -17,11 +17,13 @@ write-lines-requires : tie.Need-write-lines-requires
 write-lines-requires c κs =
     let s = c .before .before .before .before .before .before .before in
     let f = c .before .before .before .copy in
+    let a = s .args in
+    let e : take (length (a .x .now)) (f .last .1 .0) ≡ a .x .now = ap (λ (o : List ℕ). take (length (a .x .now)) o) (f .ensures) ∙ x-in-front (a .x .now) (omega (arith, s .pre .width)) in
     record {
       lines = s .pre .lines;
       width = s .pre .width;
       next-pos = s .pre .next-pos;
-      next-small = s .pre .next-small;
+      next-fits = lines-fit (a .recipe .now) (a .n) (a .x .now) (a .next) (a .t) 2147483648 (f .last .1 .0) e (s .pre .next-fits);
       long = f .kept .1 .0;
       blank = λ j h. ap (λ (l : List ℕ). getD l j 0) (f .ensures) ∙ zeros-behind (s .args .x .now) j h;
     }

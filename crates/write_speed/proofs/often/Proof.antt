@@ -7,10 +7,10 @@ use Rattle.write_speed.proofs.often.Statement.{statement}
 use Rattle.write_speed.proofs.often.Tie as tie
 
 abbrev Inv-loop : tie.InvT-loop
-Inv-loop times records bits₀ clauses₀ total₀ counter₀ bits clauses total counter = (total < 2 ^ 32) × (length bits ≡ length bits₀) × (length clauses ≡ length clauses₀)
+Inv-loop times x records bits₀ clauses₀ total₀ counter₀ bits clauses total counter = (total < 2 ^ 32) × (length bits ≡ length bits₀) × (length clauses ≡ length clauses₀)
 
 abbrev μ-loop : tie.MeasureT-loop
-μ-loop times records bits₀ clauses₀ total₀ counter₀ bits clauses total counter = times - counter
+μ-loop times x records bits₀ clauses₀ total₀ counter₀ bits clauses total counter = times - counter
 
 loop-holds : tie.Need-loop-holds Inv-loop μ-loop
 loop-holds c = (omega arith, refl, refl)

@@ -8,10 +8,10 @@ use Rattle.write_speed.proofs.once.Statement.{statement}
 use Rattle.write_speed.proofs.once.Tie as tie
 
 abbrev Inv-loop : tie.InvT-loop
-Inv-loop records bits₀ clauses₀ at₀ total₀ bits clauses at total = (at ≤ length records) × (total < 2 ^ 32) × (length bits ≡ length bits₀) × (length clauses ≡ length clauses₀)
+Inv-loop x records bits₀ clauses₀ at₀ total₀ bits clauses at total = (at ≤ length records) × (total < 2 ^ 32) × (length bits ≡ length bits₀) × (length clauses ≡ length clauses₀)
 
 abbrev μ-loop : tie.MeasureT-loop
-μ-loop records bits₀ clauses₀ at₀ total₀ bits clauses at total = length records - at
+μ-loop x records bits₀ clauses₀ at₀ total₀ bits clauses at total = length records - at
 
 loop-holds : tie.Need-loop-holds Inv-loop μ-loop
 loop-holds c = (omega arith, omega arith, refl, refl)

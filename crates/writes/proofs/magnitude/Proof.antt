@@ -7,7 +7,7 @@ use lib.IntN.{ℤ, natAbs}
 use mir.Syntax.{w32, w64}
 use mir.Val.{SFits}
 use mir.ValLaws.{toZ-ofZ}
-use Rattle.wording.proofs.Sign.{sign, widen, abs-le, minus-fits, minus-back, cast-abs, plain-abs}
+use Rattle.cnf.proofs.Sign.{sign, widen, abs-le, minus-fits, minus-back, cast-abs, plain-abs}
 use Rattle.writes.proofs.magnitude.Statement.{statement}
 use Rattle.writes.proofs.magnitude.Tie as tie
 

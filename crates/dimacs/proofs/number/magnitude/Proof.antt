@@ -6,7 +6,7 @@ use lib.IntN.{ℤ, natAbs}
 use mir.Syntax.{w32, w64}
 use mir.Val.{SFits}
 use mir.ValLaws.{toZ-ofZ}
-use Rattle.wording.proofs.Sign.{sign, widen, minus-fits, minus-back, cast-abs, plain-abs}
+use Rattle.cnf.proofs.Sign.{sign, widen, minus-fits, minus-back, cast-abs, plain-abs}
 use Rattle.dimacs.proofs.number.magnitude.Statement.{statement}
 use Rattle.dimacs.proofs.number.magnitude.Tie as tie
 

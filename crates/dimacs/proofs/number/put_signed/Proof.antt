@@ -10,7 +10,8 @@ use mir.ValLaws.{toZ-ofZ}
 use lib.ListN.{length}
 use Rattle.wording.specs.Decimal.{decimal}
 use Rattle.dimacs.proofs.Place.{put-two}
-use Rattle.wording.proofs.Sign.{sign, signed-minus, signed-plain}
+use Rattle.cnf.proofs.Sign.{sign}
+use Rattle.wording.proofs.Sign.{signed-minus, signed-plain}
 use Rattle.dimacs.proofs.number.put_signed.Statement.{statement}
 use Rattle.dimacs.proofs.number.put_signed.Tie as tie
 

@@ -11,10 +11,10 @@ put-written-requires : tie.Need-put-written-requires
 put-written-requires c κs = let w = c .before .before .before .before .before in
     let k = w .before .before .before in
     let a = k .before .before .before .args in
-    let hb = w .write .kept .1 .1 .1 .0 in
-    let hw = w .write .kept .1 .1 .1 .1 .0 in (
-      written-fits (a .c) (a .w) (a .recipe .now) (replicate 32 (pos 0)) (k .word-room .result) (w .write .result) (w .write .last .1 .1 .1 .0) (w .write .last .1 .1 .1 .1 .0)
-          (record { answered = w .write .ensures .0; bits-left = w .write .ensures .1 .0; clauses-left = w .write .ensures .1 .1 }) hb hw,
+    let hb = w .write-plain .kept .1 .1 .1 .0 in
+    let hw = w .write-plain .kept .1 .1 .1 .1 .0 in (
+      written-fits (a .c) (a .w) (a .recipe .now) (replicate 32 (pos 0)) (k .word-room .result) (w .write-plain .result) (w .write-plain .last .1 .1 .1 .0) (w .write-plain .last .1 .1 .1 .1 .0)
+          (record { answered = w .write-plain .ensures .0; bits-left = w .write-plain .ensures .1 .0; clauses-left = w .write-plain .ensures .1 .1 }) hb hw,
       omega (arith, hb, hw, k .word-room .ensures),
     )
 
@@ -23,8 +23,8 @@ returns c = let p = c .before .before in
     let w = p .before .before .before .before .before .before in
     let k = w .before .before .before in
     let a = k .before .before .before .args in
-    rw (sym (written-shown (a .c) (a .w) (a .recipe .now) (replicate 32 (pos 0)) (k .word-room .result) (w .write .result) (w .write .last .1 .1 .1 .0) (w .write .last .1 .1 .1 .1 .0)
-    (record { answered = w .write .ensures .0; bits-left = w .write .ensures .1 .0; clauses-left = w .write .ensures .1 .1 }) refl (sym (k .word-room .ensures)))) (p .put-written .ensures)
+    rw (sym (written-shown (a .c) (a .w) (a .recipe .now) (replicate 32 (pos 0)) (k .word-room .result) (w .write-plain .result) (w .write-plain .last .1 .1 .1 .0) (w .write-plain .last .1 .1 .1 .1 .0)
+    (record { answered = w .write-plain .ensures .0; bits-left = w .write-plain .ensures .1 .0; clauses-left = w .write-plain .ensures .1 .1 }) refl (sym (k .word-room .ensures)))) (p .put-written .ensures)
 
 pub put-recipe-spec : {M : Type 1} → statement M
 put-recipe-spec =

@@ -13,6 +13,11 @@ slice-aggregate-put-file c = let x = c .before .before .before .written2 .given 
     let s = c .before .before .before .before .before .before in
     sym (length-take-le (x .0 .1 .1 .1 .0) (s .args .bits .now) (fits-as (length (s .args .bits .now)) (length (s .args .words .now)) (x .1) (s .pre .0) .0))
 
+sub-put-file : tie.Need-sub-put-file
+sub-put-file c = let x = c .before .before .before .written2 .given in
+    let s = c .before .before .before .before .before .before in
+    fits-as (length (s .args .bits .now)) (length (s .args .words .now)) (x .1) (s .pre .0) .2
+
 slice-aggregate-put-file-2 : tie.Need-slice-aggregate-put-file-2
 slice-aggregate-put-file-2 c = let x = c .before .before .before .before .written2 .given in
     let s = c .before .before .before .before .before .before .before in
@@ -44,6 +49,7 @@ put-written-spec =
     (λ c. omega arith)
     slice-aggregate-put-file
     (λ c. omega arith)
+    sub-put-file
     slice-aggregate-put-file-2
     put-file-requires
     (λ c. omega arith)

@@ -1,12 +1,30 @@
 -- `column::carry_bit`: the carry, by the number of unfixed inputs.
 use native.Mathlib.Omega.{arith}
-use Rattle.write.proofs.CodeColumns.{carry-of-none, carry-of-one, carry-of-two, carry-of-three}
+use Rattle.write.proofs.CodeColumns.{carry-of-none, carry-of-one, carry-of-two, carry-of-three, carry-opens-two, carry-opens-three}
 use borrow.Author.Needs.{needs}
 use Rattle.write.proofs.column.carry_bit.Statement.{statement}
 use Rattle.write.proofs.column.carry_bit.Tie as tie
 
 carry-of-one-requires : tie.Need-carry-of-one-requires
 carry-of-one-requires c κs = rw (c .before .o .given .1) at (c .before .before .before .pre .0)
+
+mul-t15 : tie.Need-mul-t15
+mul-t15 c = let s = c .before .before .before in record { fits = omega (arith, carry-opens-two (s .args .f) (s .args .t) 2147483648 (c .before .o2 .given .1) (s .pre .3)) }
+
+mul-flipped : tie.Need-mul-flipped
+mul-flipped c = let s = c .before .before .before .before .before in record { fits = omega (arith, carry-opens-two (s .args .f) (s .args .t) 2147483648 (c .before .before .before .o2 .given .1) (s .pre .3)) }
+
+add-t21 : tie.Need-add-t21
+add-t21 c = let s = c .before .before .before .before .before .before in record { fits = omega (arith, carry-opens-two (s .args .f) (s .args .t) 2147483648 (c .before .before .before .before .o2 .given .1) (s .pre .3)) }
+
+mul-t22 : tie.Need-mul-t22
+mul-t22 c = let s = c .before .before .before in record { fits = omega (arith, carry-opens-three (s .args .f) (s .args .t) 2147483648 (c .before .o3 .given .1) (s .pre .3)) }
+
+mul-t23 : tie.Need-mul-t23
+mul-t23 c = let s = c .before .before .before in record { fits = omega (arith, carry-opens-three (s .args .f) (s .args .t) 2147483648 (c .before .o3 .given .1) (s .pre .3)) }
+
+add-t25 : tie.Need-add-t25
+add-t25 c = let s = c .before .before .before in record { fits = omega (arith, carry-opens-three (s .args .f) (s .args .t) 2147483648 (c .before .o3 .given .1) (s .pre .3)) }
 
 returns : tie.Need-returns
 returns c = rw (c .before .enum-told .given .1) (carry-of-none _ _ _ (c .carry-of-none .ensures))
@@ -29,6 +47,6 @@ pub carry-bit-spec : {M : Type 1} → statement M
 carry-bit-spec =
     tie.close
     (tie.spec (λ c. search needs) (λ c κs. search needs) (λ c. search needs) carry-of-one-requires
-    (λ c. search needs) (λ c. search needs) (λ c κs. search needs) (λ c κs. search needs) (λ c. search needs)
-    (λ c κs. search needs) (λ c. search needs) (λ c. search needs) (λ c. search needs) (λ c. search needs)
-    (λ c. search needs) returns returns-2 returns-3 returns-4)
+    (λ c. search needs) mul-t15 (λ c κs. search needs) (λ c κs. search needs) mul-flipped
+    (λ c κs. search needs) add-t21 (λ c. search needs) mul-t22 mul-t23
+    add-t25 returns returns-2 returns-3 returns-4)

@@ -1,9 +1,10 @@
 -- `lines::write_line`: the sum of the line's two terms.
-use mathlib.Core.Path.{sym}
+use mathlib.Core.Path.{sym, ap}
 use native.Mathlib.Omega.{arith}
 use lib.ListN.{length-take, length-drop}
 use lib.Seq.{length-take-le}
-use Rattle.write.proofs.CodeTerms.{line-is}
+use Rattle.product.specs.Lines.{Sum}
+use Rattle.write.proofs.CodeTerms.{line-terms, line-is}
 use borrow.Author.Needs.{needs}
 use Rattle.write.proofs.lines.write_line.Statement.{statement}
 use Rattle.write.proofs.lines.write_line.Tie as tie
@@ -22,14 +23,23 @@ slice-aggregate-write-sum-2 c =
 
 write-sum-requires : tie.Need-write-sum-requires
 write-sum-requires c κs =
-    let p = c .before .before .before .before .before .before .before .before .before .before .before .before .before .before .before .before .pre in
+    let s = c .before .before .before .before .before .before .before .before .before .before .before .before .before .before .before .before in
+    let a = s .args in
+    let p = s .pre in
+    let lt = c .before .before .before .before .before .before .before .before .before .before .term in
+    let rt = c .before .before .before .before .before .term2 in
+    let off = c .before .before .before .before .before .before .before .before .before .before .before .before .before .before .taken-off in
+    let ls = c .before .before .before .before .before .before .before .before .before .before .before .before .shift-of-left in
+    let rs = c .before .before .before .before .before .before .before .shift-of-right in
+    let e = line-terms (a .l) (a .m) (a .at) (a .from) (a .scratch .now) (lt .last .1 .1 .1 .1 .1 .0) (rt .last .1 .1 .1 .1 .1 .0) (ls .result) (rs .result) (off .result) p
+    (ls .ensures) (rs .ensures) (off .ensures) (lt .ensures) (rt .ensures) in
     record {
       columns = omega (arith, p .columns);
       lefts = length-take-le _ _ (omega (arith, p .columns, c .before .before .before .before .before .before .before .before .before .before .term .kept .1 .1 .1 .1 .1 .0));
       rights = length-take-le _ _ (omega (arith, p .columns, c .before .before .before .before .before .term2 .kept .1 .1 .1 .1 .1 .0));
       bits = simp (length-take, length-drop) (omega (arith, p .columns, p .bits));
       next-pos = p .next-pos;
-      next-small = p .next-small;
+      next-fits = omega (arith, p .next-fits, ap (λ (q : Sum). q .next) e);
       words-small = p .words-small;
       clauses-small = p .clauses-small;
     }

@@ -10,7 +10,7 @@ use Rattle.recipe.proofs.Walk.{part-line}
 use Rattle.product.specs.Lines.{columns, encoded}
 use Rattle.product.specs.Product.{lines-from}
 use Rattle.gates.specs.Code.{bits-of}
-use Rattle.write.proofs.CodeLines.{Upto, begin, more, done}
+use Rattle.write.proofs.CodeLines.{Upto, begin, line-fits, more, done}
 use borrow.Author.Needs.{needs}
 use Rattle.write.proofs.lines.write_lines.Statement.{statement}
 use Rattle.write.proofs.lines.write_lines.Tie as tie
@@ -51,7 +51,10 @@ write-line-requires c κs =
       rights = omega (arith, u .long, p .lines .few, p .lines .rights (l .i) h, ap (λ (q : Line). q .right) e);
       bits = omega (arith, u .long, p .lines .few, h);
       next-pos = u .free-pos;
-      next-small = omega (arith, u .free-small, p .next-small, p .lines .few, h);
+      next-fits =
+          line-fits (s .args .w) (s .args .recipe .now) (bits-of (take (s .args .w) (s .args .scratch .now))) (s .args .n) (s .args .next) (s .args .room .now)
+          (l .scratch) (l .room) (l .free) (l .used) (l .made) (l .i) 2147483648 u h (p .lines) (c .before .before .before .read .result) e
+          (c .before .before .columns-of .result) (c .before .before .columns-of .ensures .0) (p .next-fits);
       words-small = omega (arith, u .used-small, p .lines .few, h);
       clauses-small = omega (arith, u .count-small, p .lines .few, h);
     }

@@ -6,7 +6,7 @@ use Rattle.gates.specs.Code.{bit-of, bits-of}
 use Rattle.product.specs.Lines.{adder}
 use Rattle.gates.specs.declared.Taken.{Taken}
 use Rattle.gates.proofs.GateWords.{column-few}
-use Rattle.write.proofs.Sums.{Upto, begin, more, done}
+use Rattle.write.proofs.Sums.{Upto, begin, column-fits, more, done}
 use borrow.Author.Needs.{needs}
 use Rattle.write.proofs.lines.write_sum.Statement.{statement}
 use Rattle.write.proofs.lines.write_sum.Tie as tie
@@ -24,6 +24,17 @@ loop-holds c =
     let a = c .before .before .before .args in
     let p = c .before .before .before .pre in
     (omega arith, begin (a .left .now) (a .right .now) (a .first) (a .m) (a .from) (a .sums .now) (a .room .now) (p .lefts) (p .rights) (p .next-pos))
+
+column-requires : tie.Need-column-requires Inv-loop μ-loop
+column-requires c κs =
+    let a = c .before .before .before .before .before .before .before .args in
+    let p = c .before .before .before .before .before .before .before .pre in
+    let l = c .before .before .before .loop in
+    let h = c .before .before .loop-test .taken in (
+      l .inv .1 .free-pos,
+      column-fits (a .left .now) (a .right .now) (a .first) (a .m) (a .from) (a .sums .now) (a .room .now) (p .lefts) (p .rights)
+          (l .sums) (l .room) (l .carry) (l .free) (l .used) (l .made) (l .j) 2147483648 (omega (arith, h)) (l .inv .1) (p .next-fits),
+    )
 
 add-used : tie.Need-add-used Inv-loop μ-loop
 add-used c =
@@ -67,4 +78,4 @@ returns c =
 pub write-sum-spec : {M : Type 1} → statement M
 write-sum-spec =
     tie.close
-    (tie.spec Inv-loop μ-loop loop-holds (λ c. search needs) (λ c. search needs) (λ c. search needs) (λ c. search needs) (λ c. search needs) (λ c κs. search needs) (λ c. search needs) (λ c. search needs) (λ c κs. search needs) (λ c. search needs) (λ c. search needs) (λ c. search needs) (λ c. search needs) (λ c κs. search needs) add-used add-made (λ c. search needs) (λ c. search needs) loop-again same-length same-length-2 returns)
+    (tie.spec Inv-loop μ-loop loop-holds (λ c. search needs) (λ c. search needs) (λ c. search needs) (λ c. search needs) (λ c. search needs) column-requires (λ c. search needs) (λ c. search needs) (λ c κs. search needs) (λ c. search needs) (λ c. search needs) (λ c. search needs) (λ c. search needs) (λ c κs. search needs) add-used add-made (λ c. search needs) (λ c. search needs) loop-again same-length same-length-2 returns)
