@@ -2,7 +2,7 @@
 
    Each call answers 0, or the number of its refusal (docs/REFUSALS.md), and leaves counts in the slice `answers`. A refusal leaves every
    room as it came and every count 0. A slice of answers that is too short is refused with 99, and then nothing at all is written.
-   No call has any other condition: every c, w, recipe and room is taken. Rooms must not overlap, and each pointer must be good for its
+   No call has any other condition: every c, w, x, first, recipe and room is taken. Rooms must not overlap, and each pointer must be good for its
    length; with length 0 it is not read. */
 #ifndef LADLEBEAN_H
 #define LADLEBEAN_H
@@ -15,6 +15,11 @@ extern "C" {
 #endif
 
 #define LADLEBEAN_SHORT_ANSWERS 99
+
+/* The largest constant, the largest width, and the most that a next free number may be. */
+#define LADLEBEAN_MOST_CONSTANT 65535
+#define LADLEBEAN_MOST_WIDTH 16
+#define LADLEBEAN_MOST_NEXT 2147483648
 
 /* Rooms that are never too short. */
 #define LADLEBEAN_WORK 32768
@@ -30,11 +35,18 @@ uint64_t ladlebean_plan(uint64_t c, uint8_t *work, size_t work_length, uint8_t *
 /* Whether a recipe is right for c. Refusals 1, 3, 4 to 7, 8. */
 uint64_t ladlebean_check(uint64_t c, const uint8_t *recipe, size_t recipe_length);
 
-/* Writes the clauses of an accepted recipe for y = c * x, x of w bits. Refusals 1, 2, 3, 4 to 7, 8, 9, 10. After success the front of
-   `bits` holds y, lowest bit first, each as its literal or 0 if it is always 0; the front of `clauses` holds the clauses, each closed by
-   a 0; answers[0] to answers[3] are the words used, the clauses, the highest variable and the bits of y. Four answers. */
-uint64_t ladlebean_write(uint64_t c, uint32_t w, const uint8_t *recipe, size_t recipe_length, int32_t *bits, size_t bits_length,
-                         int32_t *clauses, size_t clauses_length, uint64_t *answers, size_t answers_length);
+/* Writes the clauses of an accepted recipe for y = c * x, x of w bits: w literals of distinct variables below the first free number,
+   lowest bit first; a negated bit is a negative literal. New variables are numbered from `first` on. Refusals 1, 2, 14, 3, 4 to 7, 8, 15,
+   9, 10. After success the front of `bits` holds y, lowest bit first, each as its literal or 0 if it is always 0; the front of `clauses`
+   holds the clauses, each closed by a 0; answers[0] to answers[3] are the words used, the clauses, the next free number and the bits of
+   y. Four answers. The next product of the same model takes that next free number as its first. */
+uint64_t ladlebean_write(uint64_t c, uint32_t w, const int32_t *x, size_t x_length, uint32_t first, const uint8_t *recipe,
+                         size_t recipe_length, int32_t *bits, size_t bits_length, int32_t *clauses, size_t clauses_length,
+                         uint64_t *answers, size_t answers_length);
+
+/* The same where x is the variables 1 to w and the first free number is w + 1. Refusals 1, 2, 3, 4 to 7, 8, 9, 10. */
+uint64_t ladlebean_write_plain(uint64_t c, uint32_t w, const uint8_t *recipe, size_t recipe_length, int32_t *bits, size_t bits_length,
+                               int32_t *clauses, size_t clauses_length, uint64_t *answers, size_t answers_length);
 
 #ifdef __cplusplus
 }

@@ -18,6 +18,21 @@ mod archive {
         pub fn ladlebean_write(
             c: u64,
             w: u32,
+            x: *const i32,
+            x_length: usize,
+            first: u32,
+            recipe: *const u8,
+            recipe_length: usize,
+            bits: *mut i32,
+            bits_length: usize,
+            clauses: *mut i32,
+            clauses_length: usize,
+            answers: *mut u64,
+            answers_length: usize,
+        ) -> u64;
+        pub fn ladlebean_write_plain(
+            c: u64,
+            w: u32,
             recipe: *const u8,
             recipe_length: usize,
             bits: *mut i32,
@@ -30,16 +45,16 @@ mod archive {
     }
 }
 
-/// The number of a refusal, 1 to 12 (docs/REFUSALS.md).
+/// The number of a refusal, 1 to 15 (docs/REFUSALS.md).
 #[derive(Clone, Copy, Debug, PartialEq, Eq)]
 pub struct Refusal(pub u64);
 
-/// What a written product tells.
+/// What a written product tells: words used, clauses, the next free number and bits of y.
 #[derive(Clone, Copy, Debug, PartialEq, Eq)]
 pub struct Counts {
     pub words: usize,
     pub clauses: usize,
-    pub highest: u32,
+    pub next: u32,
     pub bits: usize,
 }
 
@@ -49,6 +64,10 @@ fn unless_refused<T>(number: u64, value: T) -> Result<T, Refusal> {
     } else {
         Err(Refusal(number))
     }
+}
+
+fn counted(number: u64, [words, clauses, next, bits]: [u64; 4]) -> Result<Counts, Refusal> {
+    unless_refused(number, Counts { words: words as usize, clauses: clauses as usize, next: next as u32, bits: bits as usize })
 }
 
 /// Plans the recipe for `c` into the two rooms; gives the number of lines.
@@ -67,12 +86,37 @@ pub fn check(c: u64, recipe: &[u8]) -> Result<(), Refusal> {
     unless_refused(unsafe { archive::ladlebean_check(c, recipe.as_ptr(), recipe.len()) }, ())
 }
 
-/// Writes y and the clauses of `recipe` for `c` at width `w` into the two rooms.
-pub fn write(c: u64, w: u32, recipe: &[u8], bits: &mut [i32], clauses: &mut [i32]) -> Result<Counts, Refusal> {
+/// Writes y and the clauses of `recipe` for `c` at width `w` into the two rooms; `x` is `w` literals, and `first` the first free number.
+#[allow(clippy::too_many_arguments)]
+pub fn write(c: u64, w: u32, x: &[i32], first: u32, recipe: &[u8], bits: &mut [i32], clauses: &mut [i32]) -> Result<Counts, Refusal> {
     let mut answers = [0u64; 4];
     // SAFETY: each pointer is good for its length, and distinct `&mut` do not overlap; the call asks no more.
     let number = unsafe {
         archive::ladlebean_write(
+            c,
+            w,
+            x.as_ptr(),
+            x.len(),
+            first,
+            recipe.as_ptr(),
+            recipe.len(),
+            bits.as_mut_ptr(),
+            bits.len(),
+            clauses.as_mut_ptr(),
+            clauses.len(),
+            answers.as_mut_ptr(),
+            answers.len(),
+        )
+    };
+    counted(number, answers)
+}
+
+/// The same where x is the variables 1 to `w`, and `w` + 1 the first free number.
+pub fn write_plain(c: u64, w: u32, recipe: &[u8], bits: &mut [i32], clauses: &mut [i32]) -> Result<Counts, Refusal> {
+    let mut answers = [0u64; 4];
+    // SAFETY: as above.
+    let number = unsafe {
+        archive::ladlebean_write_plain(
             c,
             w,
             recipe.as_ptr(),
@@ -85,6 +129,5 @@ pub fn write(c: u64, w: u32, recipe: &[u8], bits: &mut [i32], clauses: &mut [i32
             answers.len(),
         )
     };
-    let [words, count, highest, length] = answers;
-    unless_refused(number, Counts { words: words as usize, clauses: count as usize, highest: highest as u32, bits: length as usize })
+    counted(number, answers)
 }

@@ -46,20 +46,77 @@ fn plans_agree() {
     }
 }
 
+/// A call of writing and what it left.
+#[derive(Debug, PartialEq)]
+struct Left {
+    answer: Result<(usize, usize, u32, usize), u8>,
+    bits: Vec<i32>,
+    clauses: Vec<i32>,
+}
+
+fn left(bits: u64, clauses: u64, write: impl Fn(&mut [i32], &mut [i32]) -> Result<(usize, usize, u32, usize), u8>) -> Left {
+    let (mut bits, mut clauses) = (vec![7; bits as usize], vec![7; clauses as usize]);
+    let answer = write(&mut bits, &mut clauses);
+    Left { answer, bits, clauses }
+}
+
+fn told(answer: Result<ladlebean::Counts, ladlebean::Refusal>) -> Result<(usize, usize, u32, usize), u8> {
+    answer.map(|k| (k.words, k.clauses, k.next, k.bits)).map_err(|refusal| refusal.0 as u8)
+}
+
+fn right(answer: Result<second::Counts, u8>) -> Result<(usize, usize, u32, usize), u8> {
+    answer.map(|k| (k.words, k.clauses, k.next, k.bits))
+}
+
 #[test]
 fn writes_agree() {
-    let mut reader = Reader(streams::writes(SEED, 4_000), 0);
+    let mut reader = Reader(streams::writes(SEED, 6_000), 0);
     while !reader.ended() {
-        let (c, w, length) = (reader.number(4), reader.number(1), reader.number(1));
+        let (call, c, w, n) = (reader.number(1), reader.number(4), reader.number(1), reader.number(1));
+        let (first, length) = (reader.number(4) as u32, reader.number(1));
         let (bits, clauses) = (reader.number(1), reader.number(2));
+        let x: Vec<i32> = (0..n).map(|_| reader.number(4) as u32 as i32).collect();
         let recipe = reader.take(length as usize);
-        let mut ours = (vec![7; bits as usize], vec![7; clauses as usize]);
-        let mut theirs = ours.clone();
-        let answer = ladlebean::write(c, w as u32, &recipe, &mut ours.0, &mut ours.1);
-        let answer = answer.map(|k| (k.words, k.clauses, k.highest, k.bits)).map_err(|refusal| refusal.0 as u8);
-        let right = second::write(c, w, &recipe, &mut theirs.0, &mut theirs.1).map(|k| (k.words, k.clauses, k.highest, k.bits));
-        assert_eq!(answer, right, "{c} {w} {recipe:?}");
-        assert_eq!(ours, theirs, "{c} {w} {recipe:?}");
+        let (ours, theirs) = if call == 0 {
+            (
+                left(bits, clauses, |b, k| told(ladlebean::write_plain(c, w as u32, &recipe, b, k))),
+                left(bits, clauses, |b, k| right(second::write_plain(c, w, &recipe, b, k))),
+            )
+        } else {
+            (
+                left(bits, clauses, |b, k| told(ladlebean::write(c, w as u32, &x, first, &recipe, b, k))),
+                left(bits, clauses, |b, k| right(second::write(c, w, &x, first, &recipe, b, k))),
+            )
+        };
+        assert_eq!(ours, theirs, "{call} {c} {w} {x:?} {first} {recipe:?}");
+    }
+}
+
+#[test]
+fn the_panels_variables_or_the_first_ones() {
+    // a recipe over 1 to w, and over other names: words, entries and counts differ by the names alone
+    let mut recipe = [0; 40];
+    for (c, w) in [(3, 2), (53, 8), (2_046, 16), (43_691, 16), (65_535, 1)] {
+        let lines = ladlebean::plan(c, &mut vec![0; 1 << 15], &mut recipe).unwrap();
+        let recipe = &recipe[..5 * lines];
+        let plain = left(32, 16_384, |b, k| told(ladlebean::write_plain(c, w, recipe, b, k)));
+        let (words, count, next, length) = plain.answer.unwrap();
+        let opened = next - w - 1;
+        let x: Vec<i32> = (0..w as i32).map(|i| if i % 2 == 0 { -(37 - 2 * i) } else { 37 - 2 * i }).collect();
+        for first in [40, 1_000_000, (1 << 31) - opened] {
+            let name = |v: &i32| match v.unsigned_abs() {
+                0 => 0,
+                n if n <= w => v.signum() * x[n as usize - 1],
+                n => v.signum() * (first + n - w - 1) as i32,
+            };
+            let other = left(32, 16_384, |b, k| told(ladlebean::write(c, w, &x, first, recipe, b, k)));
+            assert_eq!(other.answer, Ok((words, count, first + opened, length)), "{c} {w} {first}");
+            assert!(plain.clauses[..words].iter().map(name).eq(other.clauses[..words].iter().copied()), "{c} {w} {first}");
+            assert!(plain.bits[..length].iter().map(name).eq(other.bits[..length].iter().copied()), "{c} {w} {first}");
+        }
+        let past = left(32, 16_384, |b, k| told(ladlebean::write(c, w, &x, (1 << 31) - opened + 1, recipe, b, k)));
+        assert_eq!(past.answer, Err(15));
+        assert!(past.bits.iter().chain(&past.clauses).all(|entry| *entry == 7));
     }
 }
 
@@ -68,8 +125,13 @@ fn constants_and_widths_of_every_size() {
     for c in [0, 1, 65_535, 65_536, u64::from(u32::MAX) + 1, u64::MAX] {
         assert_eq!(ladlebean::check(c, &[]).err().map(|refusal| refusal.0 as u8), second::check(c, &[]).err(), "{c}");
         for w in [0, 1, 16, 17, u32::MAX] {
-            let answer = ladlebean::write(c, w, &[], &mut [], &mut []).err().map(|refusal| refusal.0 as u8);
-            assert_eq!(answer, second::write(c, u64::from(w), &[], &mut [], &mut []).err(), "{c} {w}");
+            let answer = told(ladlebean::write_plain(c, w, &[], &mut [], &mut []));
+            assert_eq!(answer, right(second::write_plain(c, u64::from(w), &[], &mut [], &mut [])), "{c} {w}");
+            for first in [0, 1, 2, 1 << 31, (1 << 31) + 1, u32::MAX] {
+                let x = [i32::MIN];
+                let answer = told(ladlebean::write(c, w, &x, first, &[], &mut [], &mut []));
+                assert_eq!(answer, right(second::write(c, u64::from(w), &x, first, &[], &mut [], &mut [])), "{c} {w} {first}");
+            }
         }
     }
 }
