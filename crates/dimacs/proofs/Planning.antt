@@ -17,7 +17,7 @@ use Rattle.line.proofs.Number.{bits-le, odd-part-le}
 use Rattle.recipe.specs.Accepted.{Right}
 use Rattle.recipe.specs.Check.{line-at, out-of-range}
 use Rattle.recipe.proofs.Accepted.{accepted-right}
-use Rattle.split.specs.Choose.{lines, split-of}
+use Rattle.split.specs.Choose.{split-of}
 use Rattle.split.specs.Order.{recipe-for, lines-bytes}
 use Rattle.plan.specs.Plan.{Outcome, odd-bits}
 use Rattle.plan.specs.declared.Planned.{Planned}

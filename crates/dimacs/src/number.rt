@@ -3,9 +3,9 @@ ghost use mathlib.Core.Path.{_≡_};
 ghost use mathlib.Core.List.{[], _∷_};
 ghost use Prim.Native.Nat.{_+_, _≤_, _<_};
 ghost use lib.ListN.{length};
-ghost use lib.IntN.{natAbs};
 ghost use Rattle.wording.specs.Decimal.{decimal, signed-decimal};
 ghost use Rattle.dimacs.specs.Put.{Put};
+use gates::named;
 
 pub(crate) fn put_byte(out: &mut [u8], at: usize, b: u8) -> usize
     requires { ⌜ at < length (now out) ⌝ }
@@ -39,23 +39,13 @@ pub(crate) fn put_decimal(out: &mut [u8], at: usize, n: u64) -> usize
     put_byte(out, e, 48 + (n % 10) as u8)
 }
 
-// How far a number is from 0.
-fn magnitude(z: i32) -> u64
-    ensures { λ r. ⌜ r ≡ natAbs z ⌝ }
-{
-    if z < 0 {
-        return (0 - (z as i64)) as u64;
-    }
-    z as u64
-}
-
 pub(crate) fn put_signed(out: &mut [u8], at: usize, z: i32) -> usize
     requires { ⌜ at + length (signed-decimal z) ≤ length (now out) ⌝ }
     ensures { λ r. ⌜ Put (now (out .entry)) (now (out .exit)) at r (signed-decimal z) ⌝ }
 {
     if z < 0 {
         let e = put_byte(out, at, b'-');
-        return put_decimal(out, e, magnitude(z));
+        return put_decimal(out, e, named(z));
     }
-    put_decimal(out, at, magnitude(z))
+    put_decimal(out, at, named(z))
 }

@@ -34,7 +34,7 @@ pub fn word(b: u32) -> i32
 
 // The variable that a literal names; the least i32 names 2^31.
 pub fn named(l: i32) -> u64
-    ensures { λ r. ⌜ r ≡ named l ⌝ }
+    ensures { λ r. ⌜ (r ≡ named l) × (r ≤ 2147483648) ⌝ }
 {
     if l < 0 {
         return (0 - (l as i64)) as u64;

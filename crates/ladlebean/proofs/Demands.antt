@@ -28,15 +28,15 @@
 -- the odd part's non-adjacent form less one (`few-lines`), of which every positive number has exactly one (`one-form`). At width w its clauses, read
 -- off the room, are at most 14 * (L + w) a line (`few-clauses`).
 use Prim.Native.Nat.{ℕ, suc, _+_, _-_, _*_, _/_, _%_, _^_, _≤_, _<_}
-use mathlib.Core.Path.{_≡_, refl, sym, ap, _∙_, subst}
-use mathlib.Core.Bool.{Bool, true, false}
+use mathlib.Core.Path.{_≡_, refl, _∙_}
+use mathlib.Core.Bool.{Bool, false}
 use mathlib.Core.List.{List}
 use native.Mathlib.Omega.{arith}
 use lib.IntN.{ℤ}
 use lib.ListN.{length, getD}
 use Rattle.line.specs.Number.{bit-length, odd-part}
 use Rattle.line.specs.declared.Refusal.{Refusal}
-use Rattle.recipe.specs.Check.{checked, line-at, coefficient-at}
+use Rattle.recipe.specs.Check.{checked, coefficient-at}
 use Rattle.recipe.specs.Accepted.{Right}
 use Rattle.recipe.specs.declared.Checked.the-variants.{Accepted}
 use Rattle.recipe.proofs.Accepted.{accepted-right, right-accepted}

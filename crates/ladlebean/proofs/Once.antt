@@ -123,7 +123,7 @@ pub word-once : Answers WordKinds.ps WordKinds.r Word.Learnt
 word-once κs a x y e f p q = p ∙ sym q
 
 pub named-once : Answers NamedKinds.ps NamedKinds.r Named.Learnt
-named-once κs a x y e f p q = p ∙ sym q
+named-once κs a x y e f p q = p .0 ∙ sym (q .0)
 
 pub write-column-once : Coincide WriteColumnKinds.ps WriteColumnKinds.r WriteColumn.Learnt (λ κs x y e f. (x ≡ y) × (now (e .1 .1 .0) ≡ now (f .1 .1 .0)))
 write-column-once κs a x y e f p q = (p .0 ∙ sym (q .0), p .1 ∙ sym (q .1))

@@ -2,7 +2,7 @@
 use Prim.Native.Nat.{ℕ, zero, suc, _+_, _-_, _*_, _<_, _≤_}
 use mathlib.Core.Path.{_≡_, refl, sym, ap, ap₂, subst, _∙_}
 use mathlib.Core.Bool.{Bool, true, false, cond}
-use mathlib.Core.List.{List, [], _∷_, _++_, map, map-append}
+use mathlib.Core.List.{List, [], _∷_, _++_, map}
 use native.Mathlib.Omega.{arith}
 use native.Mathlib.Nat.{add-zero, add-suc, suc-add}
 use native.Mathlib.Numerals.{add-one}
@@ -12,14 +12,13 @@ use lib.ListN.{length, getD, take, drop, length-map, replicate, getD-replicate, 
 use lib.Seq.{sets, ext-getD}
 use native.Mathlib.Decide.{decLt}
 use borrow.Author.Tests.{lt-ltb, le-ltb}
-use Rattle.cnf.specs.Clause.{new}
-use Rattle.cnf.specs.Words.{word, words, literal-of-word}
+use Rattle.cnf.specs.Words.{word, words}
 use Rattle.line.specs.declared.Refusal.the-variants.{BitRoom, ClauseRoom, Variables}
-use Rattle.product.specs.Bit.{Bit, fixed, unfixed, given, numbered, stored}
+use Rattle.product.specs.Bit.{Bit, fixed, given, numbered, stored}
 use Rattle.product.specs.Lines.{shifted, columns, Encoded, encoded}
 use Rattle.product.specs.Product.{last, Product, product, lines-from, y-entries, clause-words}
 use Rattle.gates.specs.Code.{literal-of, bit-of, bits-of, code-of-word}
-use Rattle.write.specs.Terms.{table, shifted-code, operand-at, variable-code, given-code, plain-literal, y-entry}
+use Rattle.write.specs.Terms.{table, shifted-code, operand-at, given-code, plain-literal, y-entry}
 use Rattle.write.specs.Rooms.{Writable, LinesAre, CountsAre, CanPass, PassIs, CanWrite}
 use Rattle.product.specs.Write.{unfit, most-next, Outcome, product-written}
 use Rattle.write.specs.declared.lines.Place.{Place}
@@ -27,8 +26,8 @@ use Rattle.product.specs.declared.Written.{Written}
 use Rattle.product.specs.declared.Written.the-variants.{Clauses, Refused}
 use Rattle.product.proofs.Lengths.{length-operands, length-lines}
 use Rattle.product.proofs.Nexts.{Narrow, encoded-few}
-use Rattle.product.proofs.Given.{fit-of, length-given, length-numbered, counts-as-numbered}
-use Rattle.gates.proofs.Codes.{bit-zero, bit-new, stored-word}
+use Rattle.product.proofs.Given.{fit-of, unfit-of, length-given, length-numbered, numbered-fit, counts-as-numbered}
+use Rattle.gates.proofs.Codes.{bit-zero, stored-word}
 use Rattle.gates.proofs.Given.{bits-given}
 use Rattle.gates.proofs.Stores.{over-front}
 use Rattle.write.proofs.Tables.{length-table, table-at, take-sets}
@@ -52,19 +51,16 @@ numbered-none : [] ≡ numbered 1 0
 unfolding numbered
 numbered-none = refl
 
--- document 01's x, as literals and as codes
-pub plain-literals : (w : ℕ) → table plain-literal w ≡ numbered 1 w
+-- document 01's x as literals, and in the front of a room
+plain-literals : (w : ℕ) → table plain-literal w ≡ numbered 1 w
 unfolding table
 plain-literals zero = numbered-none
 plain-literals (suc w) = ap₂ (λ (l : List ℤ) (k : ℕ). l ++ (pos k ∷ [])) (plain-literals w) (omega arith) ∙ sym (numbered-snoc 1 w)
 
-pub variable-bits : (w : ℕ) → bits-of (table variable-code w) ≡ given (numbered 1 w)
-unfolding table
-variable-bits zero = ap (λ (l : List ℤ). given l) numbered-none
-variable-bits (suc w) =
-    map-append bit-of (table variable-code w) (2 * (w + 1) ∷ [])
-    ∙ (ap₂ (λ (l : List Bit) (b : Bit). l ++ (b ∷ [])) (variable-bits w) (bit-new (w + 1) (omega arith) ∙ ap (λ (k : ℕ). unfixed (new k)) (omega arith))
-    ∙ (sym (map-append (λ (l : ℤ). unfixed (literal-of-word l)) (numbered 1 w) (pos (1 + w) ∷ [])) ∙ ap (λ (l : List ℤ). given l) (sym (numbered-snoc 1 w))))
+pub plain-front : (w : ℕ) (x : List ℤ) → w ≤ 16 → x ≡ sets (replicate 16 (pos 0)) 0 (table plain-literal w) → take w x ≡ numbered 1 w
+plain-front w x h e =
+    ap (λ (l : List ℤ). take w l) e
+    ∙ (take-sets (replicate 16 (pos 0)) (table plain-literal w) w (length-table plain-literal w) (omega (arith, length-replicate {A = ℤ} 16 (pos 0))) ∙ plain-literals w)
 
 -- given literals as codes
 pub given-bits : (first : ℕ) (x : List ℤ) → unfit first x ≡ false → bits-of (table (given-code x) (length x)) ≡ given x
@@ -92,6 +88,29 @@ zeros-behind x j h = sets-above blank x 0 j 0 (omega arith) ∙ go (decLt j 1188
     go : Dec (j < 1188) → _≡_ {A = ℕ} (getD blank j 0) 0
     go (yes q) = getD-replicate 1188 j 0 0 q
     go (no q) = List·getD-eq-default blank 0 {n = j} (omega (arith, length-blank))
+
+-- document 01's x in the front of x, and its codes over zeros
+module _ (w : ℕ) (x : List ℤ) (few : w ≤ 16) (e : take w x ≡ numbered 1 w) where
+  pub plain-long : length (take w x) ≡ w
+  plain-long = ap (λ (l : List ℤ). length l) e ∙ length-numbered 1 w
+
+  pub plain-fit : unfit (w + 1) (take w x) ≡ false
+  plain-fit = ap₂ (λ (n : ℕ) (l : List ℤ). unfit n l) (add-one w) e ∙ unfit-of (suc w) (numbered 1 w) (numbered-fit w)
+
+  module _ (codes : List ℕ) (is : codes ≡ sets blank 0 (table (given-code (take w x)) (length (take w x)))) where
+    abbrev t : List ℕ
+    t = table (given-code (take w x)) (length (take w x))
+
+    long : length t ≡ w
+    long = length-table (given-code (take w x)) (length (take w x)) ∙ plain-long
+
+    pub plain-bits : bits-of (take w codes) ≡ given (numbered 1 w)
+    plain-bits =
+        let front : take w codes ≡ t = ap₂ (λ (n : ℕ) (l : List ℕ). take n l) (sym long) is ∙ x-in-front t (omega (arith, long)) in
+        ap (λ (l : List ℕ). bits-of l) front ∙ (given-bits (w + 1) (take w x) plain-fit ∙ ap (λ (l : List ℤ). given l) e)
+
+    pub plain-behind : (j : ℕ) → w ≤ j → getD codes j 0 ≡ 0
+    plain-behind j h = ap (λ (l : List ℕ). getD l j 0) is ∙ zeros-behind t j (omega (arith, long))
 
 -- ---- y
 

@@ -35,10 +35,6 @@ taken-off kind = cond (eqb kind 1) 0 1
 unfoldable pub operand-at : List ℕ → ℕ → List ℕ
 operand-at scratch i = take 36 (drop (36 * i) scratch)
 
--- the code of variable j + 1, bit j of document 01's x
-abbrev pub variable-code : ℕ → ℕ
-variable-code j = 2 * (j + 1)
-
 -- bit j of given literals, and literal j of document 01's x
 abbrev pub given-code : List ℤ → ℕ → ℕ
 given-code x j = code-of-word (getD x j (pos 0))

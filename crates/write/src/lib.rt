@@ -15,7 +15,7 @@ ghost use Rattle.product.specs.Bit.{given, numbered};
 ghost use Rattle.product.specs.Lines.{columns, encoded};
 ghost use Rattle.cnf.specs.Words.{named, names};
 ghost use Rattle.product.specs.Write.{unfit, most-next, product-written, written, plain-written};
-ghost use Rattle.write.specs.Terms.{table, variable-code, given-code, plain-literal, unfit-at, y-entry};
+ghost use Rattle.write.specs.Terms.{table, given-code, plain-literal, unfit-at, y-entry};
 ghost use Rattle.write.specs.Rooms.{Writable, CountsAre, CanPass, PassIs, CanWrite};
 use crate::lines::MOST_COLUMNS;
 use crate::lines::Place;
@@ -94,29 +94,6 @@ fn pass(
     r
 }
 
-// What the lines of a recipe need, whatever the names: x is the variables 1 to w, and nothing is written.
-fn counted(recipe: &[u8], n: usize, w: usize) -> Place
-    requires { ⌜ Writable w (now recipe) n × (w ≤ 16) ⌝ }
-    ensures { λ r. ⌜ CountsAre (encoded (columns w) (lines-from (now (recipe .entry)) 0 n) (given (numbered 1 w) ∷ []) (w + 1)) (w + 1) r ⌝ }
-{
-    let mut scratch = [0u32; MOST_COLUMNS * (Line::MOST_LINES + 1)];
-    variables(w, &mut scratch);
-    let mut room = [0i32; 1];
-    write_lines(recipe, n, w, w as u32 + 1, &mut scratch, &mut room[0..0])
-}
-
-// The codes of the variables 1 to w.
-fn variables(w: usize, out: &mut [u32])
-    requires { ⌜ (w ≤ 16) × (w ≤ length (now out)) ⌝ }
-    ensures { λ _. ⌜ now (out .exit) ≡ sets (now (out .entry)) 0 (table variable-code w) ⌝ }
-{
-    let mut j = 0;
-    while j < w {
-        out[j] = 2 * (j as u32 + 1);
-        j = j + 1;
-    }
-}
-
 // The code of a literal; the least i32, which names 2^31, has none.
 fn code(l: i32) -> u32
     requires { ⌜ named l < 2147483648 ⌝ }
@@ -139,6 +116,31 @@ fn codes(first: u32, x: &[i32], out: &mut [u32])
         out[j] = code(x[j]);
         j = j + 1;
     }
+}
+
+// The variables 1 to w as literals.
+fn literals(w: usize, out: &mut [i32])
+    requires { ⌜ (w ≤ 16) × (w ≤ length (now out)) ⌝ }
+    ensures { λ _. ⌜ now (out .exit) ≡ sets (now (out .entry)) 0 (table plain-literal w) ⌝ }
+{
+    let mut j = 0;
+    while j < w {
+        out[j] = (j + 1) as i32;
+        j = j + 1;
+    }
+}
+
+// What the lines of a recipe need, whatever the names: x is the variables 1 to w, and nothing is written.
+fn counted(recipe: &[u8], n: usize, w: usize) -> Place
+    requires { ⌜ Writable w (now recipe) n × (w ≤ 16) ⌝ }
+    ensures { λ r. ⌜ CountsAre (encoded (columns w) (lines-from (now (recipe .entry)) 0 n) (given (numbered 1 w) ∷ []) (w + 1)) (w + 1) r ⌝ }
+{
+    let mut scratch = [0u32; MOST_COLUMNS * (Line::MOST_LINES + 1)];
+    let mut x = [0i32; Line::MOST_WIDTH as usize];
+    literals(w, &mut x);
+    codes(w as u32 + 1, &x[..w], &mut scratch);
+    let mut room = [0i32; 1];
+    write_lines(recipe, n, w, w as u32 + 1, &mut scratch, &mut room[0..0])
 }
 
 // The next free number is at most this.
@@ -269,18 +271,6 @@ pub fn write(
     let n = recipe.len() / Line::BYTES;
     let size = line::bit_length(c * largest(w as usize));
     write_product(recipe, n, x, first, line::twos(c), size, bits, clauses)
-}
-
-// The variables 1 to w as literals.
-fn literals(w: usize, out: &mut [i32])
-    requires { ⌜ (w ≤ 16) × (w ≤ length (now out)) ⌝ }
-    ensures { λ _. ⌜ now (out .exit) ≡ sets (now (out .entry)) 0 (table plain-literal w) ⌝ }
-{
-    let mut j = 0;
-    while j < w {
-        out[j] = (j + 1) as i32;
-        j = j + 1;
-    }
 }
 
 // Document 01's call: x is the variables 1 to w.

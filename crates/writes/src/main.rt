@@ -4,6 +4,7 @@
 // literals (4 bytes each, two's complement) and the recipe. A line is the refusal's number, words, clauses, next free number, bits of y, and a
 // sum over both rooms.
 
+use gates::named;
 use libc::STDIN_FILENO;
 use libc::STDOUT_FILENO;
 use product::Written;
@@ -27,20 +28,11 @@ fn fill(room: &mut [i32]) {
     }
 }
 
-fn magnitude(z: i32) -> u64
-    ensures { λ r. ⌜ r ≤ 2 ^ 31 ⌝ }
-{
-    if z < 0 {
-        return (0 - (z as i64)) as u64;
-    }
-    z as u64
-}
-
 // The word as a number without sign.
 fn unsigned(z: i32) -> u64
     ensures { λ r. ⌜ r ≤ 2 ^ 32 ⌝ }
 {
-    let m = magnitude(z);
+    let m = named(z);
     if z < 0 { 4294967296 - m } else { m }
 }
 

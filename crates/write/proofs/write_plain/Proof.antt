@@ -1,15 +1,11 @@
 -- `write::write_plain`: the call where x is the variables 1 to w (proofs/Calls.antt). Assumes nothing.
-use mathlib.Core.Path.{_≡_, refl, sym, ap, subst, _∙_}
-use mathlib.Core.List.{List}
+use mathlib.Core.Path.{_≡_, refl, sym, subst}
 use native.Mathlib.Omega.{arith}
-use lib.IntN.{ℤ, pos}
-use lib.ListN.{take, replicate, length-replicate}
+use lib.ListN.{take}
 use lib.Seq.{length-take-le}
 use Rattle.product.specs.Bit.{numbered}
 use Rattle.product.specs.Write.{Outcome}
-use Rattle.write.specs.Terms.{table, plain-literal}
-use Rattle.write.proofs.Tables.{length-table, take-sets}
-use Rattle.write.proofs.Passes.{plain-literals, Ends}
+use Rattle.write.proofs.Passes.{plain-front, Ends}
 use Rattle.write.proofs.Calls.{plain-is}
 use borrow.Author.Needs.{needs}
 use Rattle.write.proofs.write_plain.Statement.{statement}
@@ -29,9 +25,7 @@ returns c =
     let y = c .before .before .write in
     let n = k .result in
     let x = take n (l .last .1 .0) in
-    let e : x ≡ numbered 1 n =
-    ap (λ (o : List ℤ). take n o) (l .ensures)
-    ∙ (take-sets (replicate 16 (pos 0)) (table plain-literal n) n (length-table plain-literal n) (omega (arith, k .ensures .0, length-replicate {A = ℤ} 16 (pos 0))) ∙ plain-literals n) in
+    let e : x ≡ numbered 1 n = plain-front n (l .last .1 .0) (omega (arith, k .ensures .0)) (l .ensures) in
     subst (λ (o : Outcome). Ends o (y .result) (y .last .1 .1 .1 .1 .1 .0) (y .last .1 .1 .1 .1 .1 .1 .0))
     (plain-is (a .c) (a .w) n x _ (a .recipe .now) (a .bits .now) (a .clauses .now) (k .ensures .1) e refl) (y .ensures)
 
