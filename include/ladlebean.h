@@ -48,6 +48,12 @@ uint64_t ladlebean_write(uint64_t c, uint32_t w, const int32_t *x, size_t x_leng
 uint64_t ladlebean_write_plain(uint64_t c, uint32_t w, const uint8_t *recipe, size_t recipe_length, int32_t *bits, size_t bits_length,
                                int32_t *clauses, size_t clauses_length, uint64_t *answers, size_t answers_length);
 
+/* The second engine: takes the given literals as true and reads the clauses of `words` once, in order, each for one of the allowance.
+   `values` has one byte for each variable, that of v at v - 1: 0 false, 1 true, 2 unknown, and comes in all unknown. Refusals 26, 20, 21,
+   22. After success `values` holds what was given and what the clauses set, and answers[0] the number of clauses read. One answer. */
+uint64_t ladlebean_propagate(const int32_t *words, size_t words_length, const int32_t *given, size_t given_length, uint64_t allowance,
+                             uint8_t *values, size_t values_length, uint64_t *answers, size_t answers_length);
+
 #ifdef __cplusplus
 }
 #endif

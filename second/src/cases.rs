@@ -3,6 +3,7 @@
 //! that of the definitions' own formatter.
 
 use crate::edges::{self, Call};
+use crate::passes::{self, Pass};
 use crate::{check, plan, print, write_plain, Counts};
 
 /// The chosen splits of all odd numbers of at most this many bits are printed.
@@ -21,6 +22,7 @@ pub fn table() -> String {
         field("write-rooms", write_rooms()),
         field("given", edges::calls().iter().map(given_row).collect()),
         field("given-rooms", edges::rooms().iter().map(given_rooms_row).collect()),
+        field("propagated", passes::calls().iter().map(propagated_row).collect()),
         field("printed", printed()),
     ];
     format!("{HEAD}{}\n\nunfoldable pub agreed : Table\nagreed =\n    record {{\n{}    }}\n", splits(), rows.concat())
@@ -305,6 +307,19 @@ fn given_rooms_row(call: &Call) -> String {
     given(call, |writing| writing.rooms_row())
 }
 
+fn propagated_row(call: &Pass) -> String {
+    let Pass { words, given, allowance, room } = call;
+    let (answer, left) = call.answer();
+    let shown = format!(
+        "words = {}; given = {}; allowance = {allowance}; room = {}",
+        integers(words),
+        integers(given),
+        naturals(room)
+    );
+    let (number, clauses) = (number(&answer), answer.unwrap_or(0));
+    format!("record {{ {shown}; number = {number}; clauses = {clauses}; left = {} }}", naturals(&left))
+}
+
 fn printed() -> Vec<String> {
     let inputs: [&[u8]; 22] = [
         b"3 2\n",
@@ -366,6 +381,29 @@ mod tests {
         assert_eq!(distinct.len(), rows.len());
         for number in [0, 1, 2, 14, 3, 7, 8, 15, 9, 10] {
             assert!(rows.iter().any(|row| row.contains(&format!("; number = {number};"))), "{number}");
+        }
+    }
+
+    #[test]
+    fn a_row_of_a_pass() {
+        let call = Pass { words: vec![-1, 2, 0], given: vec![1], allowance: 7, room: vec![2, 2, 2] };
+        let around = "record { words = negsuc 0 ∷ pos 2 ∷ pos 0 ∷ []; given = pos 1 ∷ []; allowance = 7; ";
+        let success = "room = 2 ∷ 2 ∷ 2 ∷ []; number = 0; clauses = 1; left = 1 ∷ 1 ∷ 2 ∷ [] }";
+        assert_eq!(propagated_row(&call), format!("{around}{success}"));
+        let refused = Pass { room: vec![2, 3], ..call };
+        let refusal = "room = 2 ∷ 3 ∷ []; number = 26; clauses = 0; left = 2 ∷ 3 ∷ [] }";
+        assert_eq!(propagated_row(&refused), format!("{around}{refusal}"));
+    }
+
+    /// Without repeats, few enough to be computed, and with every number several times.
+    #[test]
+    fn the_rows_of_passes_differ_and_meet_every_refusal() {
+        let rows: Vec<String> = passes::calls().iter().map(propagated_row).collect();
+        let distinct: std::collections::BTreeSet<&String> = rows.iter().collect();
+        assert!(distinct.len() == rows.len() && rows.len() < 120);
+        for number in [0, 20, 21, 22, 26] {
+            let met = rows.iter().filter(|row| row.contains(&format!("; number = {number};"))).count();
+            assert!(met >= 5, "{number}: {met}");
         }
     }
 }

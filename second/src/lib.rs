@@ -1,6 +1,7 @@
 //! Constant products as clauses: plan a recipe for `c`, check one, write its
-//! clauses, print them as a DIMACS file. Written from documents 01 and 02 alone
-//! (of 02, a so far), to stand beside the first engine and be compared with it.
+//! clauses, print them as a DIMACS file, make one pass over words. Written from
+//! documents 01 and 02 alone (of 02, a and i so far), to stand beside the first
+//! engine and be compared with it.
 
 #![forbid(unsafe_code)]
 
@@ -11,8 +12,11 @@ mod column;
 mod edges;
 mod line;
 mod number;
+mod pass_stream;
+mod passes;
 mod planner;
 mod printer;
+mod propagator;
 mod random;
 mod refusal;
 mod split;
@@ -23,4 +27,5 @@ mod writer;
 pub use checker::check;
 pub use planner::plan;
 pub use printer::{print, print_recipe};
+pub use propagator::propagate;
 pub use writer::{write, write_plain, Counts};

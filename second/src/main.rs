@@ -12,7 +12,7 @@ const USAGE: &str = "usage: second plan C           lines of the planned recipe,
        second cases            worked cases, as the table that the proofs compute
        second calls KIND SEED COUNT   that many calls of a KIND, as a stream of records
        second answers KIND     the answers to such a stream on standard input
-KIND is recipes (checking), plans or writes.
+KIND is recipes (checking), plans, writes or propagations (passes over words).
 C and W are decimal numbers; blanks within HEX are ignored.
 ";
 
@@ -94,6 +94,7 @@ fn calls(kind: &str, seed: u64, count: usize) -> Option<Vec<u8>> {
         "recipes" => Some(streams::recipes(seed, count)),
         "plans" => Some(streams::plans(seed, count)),
         "writes" => Some(streams::writes(seed, count)),
+        "propagations" => Some(streams::propagations(seed, count)),
         _ => None,
     }
 }
@@ -103,6 +104,7 @@ fn answers(kind: &str) -> Option<Vec<u8>> {
         "recipes" => streams::recipe_answers,
         "plans" => streams::plan_answers,
         "writes" => streams::write_answers,
+        "propagations" => streams::propagation_answers,
         _ => return None,
     };
     let mut stream = Vec::new();

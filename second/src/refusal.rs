@@ -15,6 +15,10 @@ pub const RECIPE_ROOM: u8 = 12;
 pub const INPUT: u8 = 13;
 pub const LITERALS: u8 = 14;
 pub const VARIABLES: u8 = 15;
+pub const ALLOWANCE: u8 = 20;
+pub const CLAUSE: u8 = 21;
+pub const CONFLICT: u8 = 22;
+pub const VALUES: u8 = 26;
 
 const C_MAX: u64 = 65_535;
 pub const W_MAX: u64 = 16;

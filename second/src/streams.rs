@@ -3,28 +3,29 @@
 
 use crate::edges::{self, needed, Call, END};
 use crate::line::{Line, LINE_BYTES, MAX_LINES};
+pub use crate::pass_stream::{propagation_answers, propagations};
 use crate::random::Random;
 use crate::{check, plan, write, write_plain};
 
 const MAX_COEFFICIENT: i64 = 1_048_575;
-const MAX_CONSTANT: u64 = 65_535;
+pub(crate) const MAX_CONSTANT: u64 = 65_535;
 
 /// Takes records apart; a stream that ends inside a record ends there.
-struct Reader<'a>(&'a [u8]);
+pub(crate) struct Reader<'a>(pub(crate) &'a [u8]);
 
 impl<'a> Reader<'a> {
-    fn take(&mut self, length: usize) -> Option<&'a [u8]> {
+    pub(crate) fn take(&mut self, length: usize) -> Option<&'a [u8]> {
         let (front, rest) = self.0.split_at_checked(length)?;
         self.0 = rest;
         Some(front)
     }
 
-    fn number(&mut self, bytes: usize) -> Option<u64> {
+    pub(crate) fn number(&mut self, bytes: usize) -> Option<u64> {
         Some(self.take(bytes)?.iter().fold(0, |number, byte| number * 256 + u64::from(*byte)))
     }
 }
 
-fn planned(c: u64) -> Vec<u8> {
+pub(crate) fn planned(c: u64) -> Vec<u8> {
     let mut recipe = vec![0; 40];
     let lines = plan(c, &mut vec![0; 1 << 15], &mut recipe).expect("c is in range");
     recipe.truncate(LINE_BYTES * lines);
@@ -123,7 +124,7 @@ fn lines_at_random(random: &mut Random) -> Vec<u8> {
 }
 
 /// Document 01's own recipes: a constant and lines of kind, left, s, right and claimed coefficient.
-fn bench_recipes() -> Vec<(u64, Vec<u8>)> {
+pub(crate) fn bench_recipes() -> Vec<(u64, Vec<u8>)> {
     type Fields = (u64, usize, u32, usize, u64);
     let rows: [(u64, &[Fields]); 14] = [
         (59, &[(2, 0, 6, 0, 63), (3, 1, 2, 0, 59)]),
@@ -184,7 +185,7 @@ pub fn recipe_answers(stream: &[u8]) -> Vec<u8> {
 const PLAIN: u8 = 0;
 const GIVEN: u8 = 1;
 
-fn checksum(entries: impl Iterator<Item = u32>) -> u32 {
+pub(crate) fn checksum(entries: impl Iterator<Item = u32>) -> u32 {
     entries.fold(0, |sum: u32, entry| sum.wrapping_mul(31).wrapping_add(entry))
 }
 
@@ -252,7 +253,7 @@ fn opened(c: u64, w: u64, recipe: &[u8]) -> u32 {
 
 /// Distinct variables below the first free number, of both signs: the last ones before it, or any. Where too few are below it,
 /// the lowest are taken and some are not.
-fn drawn_literals(many: u64, first: u32, random: &mut Random) -> Vec<i32> {
+pub(crate) fn drawn_literals(many: u64, first: u32, random: &mut Random) -> Vec<i32> {
     let below = u64::from(first.clamp(1, END) - 1).max(many);
     let span = if random.one_in(2) { below.min(many + random.up_to(3)) } else { below };
     let mut x: Vec<i32> = Vec::new();
@@ -265,7 +266,7 @@ fn drawn_literals(many: u64, first: u32, random: &mut Random) -> Vec<i32> {
     x
 }
 
-fn either_sign(literal: i32, random: &mut Random) -> i32 {
+pub(crate) fn either_sign(literal: i32, random: &mut Random) -> i32 {
     if random.one_in(2) {
         literal.wrapping_neg()
     } else {

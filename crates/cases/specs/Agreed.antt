@@ -260,6 +260,84 @@ agreed =
           ∷ record { x = negsuc 4 ∷ pos 4 ∷ []; first = 2147483645; call = record { c = 3; w = 2; recipe = 32 ∷ 4 ∷ 0 ∷ 0 ∷ 3 ∷ []; bits = 6; clauses = 55; bit-room = pos 7 ∷ pos 7 ∷ pos 7 ∷ pos 7 ∷ pos 7 ∷ pos 7 ∷ []; clause-room = pos 7 ∷ pos 7 ∷ pos 7 ∷ pos 7 ∷ pos 7 ∷ pos 7 ∷ pos 7 ∷ pos 7 ∷ pos 7 ∷ pos 7 ∷ pos 7 ∷ pos 7 ∷ pos 7 ∷ pos 7 ∷ pos 7 ∷ pos 7 ∷ pos 7 ∷ pos 7 ∷ pos 7 ∷ pos 7 ∷ pos 7 ∷ pos 7 ∷ pos 7 ∷ pos 7 ∷ pos 7 ∷ pos 7 ∷ pos 7 ∷ pos 7 ∷ pos 7 ∷ pos 7 ∷ pos 7 ∷ pos 7 ∷ pos 7 ∷ pos 7 ∷ pos 7 ∷ pos 7 ∷ pos 7 ∷ pos 7 ∷ pos 7 ∷ pos 7 ∷ pos 7 ∷ pos 7 ∷ pos 7 ∷ pos 7 ∷ pos 7 ∷ pos 7 ∷ pos 7 ∷ pos 7 ∷ pos 7 ∷ pos 7 ∷ pos 7 ∷ pos 7 ∷ pos 7 ∷ pos 7 ∷ pos 7 ∷ [] } }
           ∷ record { x = negsuc 3 ∷ pos 4 ∷ []; first = 5; call = record { c = 3; w = 2; recipe = 32 ∷ 4 ∷ 0 ∷ 0 ∷ 3 ∷ []; bits = 6; clauses = 55; bit-room = pos 7 ∷ pos 7 ∷ pos 7 ∷ pos 7 ∷ pos 7 ∷ pos 7 ∷ []; clause-room = pos 7 ∷ pos 7 ∷ pos 7 ∷ pos 7 ∷ pos 7 ∷ pos 7 ∷ pos 7 ∷ pos 7 ∷ pos 7 ∷ pos 7 ∷ pos 7 ∷ pos 7 ∷ pos 7 ∷ pos 7 ∷ pos 7 ∷ pos 7 ∷ pos 7 ∷ pos 7 ∷ pos 7 ∷ pos 7 ∷ pos 7 ∷ pos 7 ∷ pos 7 ∷ pos 7 ∷ pos 7 ∷ pos 7 ∷ pos 7 ∷ pos 7 ∷ pos 7 ∷ pos 7 ∷ pos 7 ∷ pos 7 ∷ pos 7 ∷ pos 7 ∷ pos 7 ∷ pos 7 ∷ pos 7 ∷ pos 7 ∷ pos 7 ∷ pos 7 ∷ pos 7 ∷ pos 7 ∷ pos 7 ∷ pos 7 ∷ pos 7 ∷ pos 7 ∷ pos 7 ∷ pos 7 ∷ pos 7 ∷ pos 7 ∷ pos 7 ∷ pos 7 ∷ pos 7 ∷ pos 7 ∷ pos 7 ∷ [] } }
           ∷ [];
+      propagated =
+          record { words = []; given = []; allowance = 0; room = []; number = 0; clauses = 0; left = [] }
+          ∷ record { words = []; given = pos 3 ∷ negsuc 1 ∷ []; allowance = 0; room = 2 ∷ 2 ∷ 2 ∷ 2 ∷ []; number = 0; clauses = 0; left = 2 ∷ 0 ∷ 1 ∷ 2 ∷ [] }
+          ∷ record { words = pos 1 ∷ pos 0 ∷ []; given = []; allowance = 1; room = 2 ∷ []; number = 0; clauses = 1; left = 1 ∷ [] }
+          ∷ record { words = negsuc 1 ∷ pos 0 ∷ []; given = []; allowance = 1; room = 2 ∷ 2 ∷ 2 ∷ []; number = 0; clauses = 1; left = 2 ∷ 0 ∷ 2 ∷ [] }
+          ∷ record { words = pos 1 ∷ negsuc 1 ∷ pos 0 ∷ []; given = pos 2 ∷ []; allowance = 1; room = 2 ∷ 2 ∷ []; number = 0; clauses = 1; left = 1 ∷ 1 ∷ [] }
+          ∷ record { words = pos 2 ∷ pos 2 ∷ pos 0 ∷ []; given = []; allowance = 1; room = 2 ∷ 2 ∷ []; number = 0; clauses = 1; left = 2 ∷ 1 ∷ [] }
+          ∷ record { words = negsuc 2 ∷ pos 1 ∷ negsuc 2 ∷ pos 2 ∷ negsuc 2 ∷ pos 0 ∷ []; given = negsuc 0 ∷ negsuc 1 ∷ []; allowance = 1; room = 2 ∷ 2 ∷ 2 ∷ []; number = 0; clauses = 1; left = 0 ∷ 0 ∷ 0 ∷ [] }
+          ∷ record { words = negsuc 0 ∷ pos 2 ∷ pos 0 ∷ negsuc 1 ∷ pos 3 ∷ pos 0 ∷ []; given = pos 1 ∷ []; allowance = 2; room = 2 ∷ 2 ∷ 2 ∷ []; number = 0; clauses = 2; left = 1 ∷ 1 ∷ 1 ∷ [] }
+          ∷ record { words = negsuc 1 ∷ pos 3 ∷ pos 0 ∷ negsuc 0 ∷ pos 2 ∷ pos 0 ∷ []; given = pos 1 ∷ []; allowance = 2; room = 2 ∷ 2 ∷ 2 ∷ []; number = 0; clauses = 2; left = 1 ∷ 1 ∷ 2 ∷ [] }
+          ∷ record { words = pos 1 ∷ pos 2 ∷ pos 0 ∷ negsuc 0 ∷ pos 0 ∷ []; given = []; allowance = 2; room = 2 ∷ 2 ∷ []; number = 0; clauses = 2; left = 0 ∷ 2 ∷ [] }
+          ∷ record { words = pos 1 ∷ pos 2 ∷ pos 0 ∷ []; given = pos 1 ∷ []; allowance = 1; room = 2 ∷ 2 ∷ []; number = 0; clauses = 1; left = 1 ∷ 2 ∷ [] }
+          ∷ record { words = pos 2 ∷ negsuc 0 ∷ pos 0 ∷ []; given = negsuc 0 ∷ []; allowance = 1; room = 2 ∷ 2 ∷ []; number = 0; clauses = 1; left = 0 ∷ 2 ∷ [] }
+          ∷ record { words = pos 1 ∷ pos 2 ∷ pos 0 ∷ []; given = negsuc 1 ∷ pos 1 ∷ []; allowance = 1; room = 2 ∷ 2 ∷ []; number = 0; clauses = 1; left = 1 ∷ 0 ∷ [] }
+          ∷ record { words = pos 1 ∷ pos 0 ∷ pos 1 ∷ pos 0 ∷ []; given = []; allowance = 2; room = 2 ∷ []; number = 0; clauses = 2; left = 1 ∷ [] }
+          ∷ record { words = pos 1 ∷ pos 2 ∷ pos 0 ∷ []; given = []; allowance = 1; room = 2 ∷ 2 ∷ []; number = 0; clauses = 1; left = 2 ∷ 2 ∷ [] }
+          ∷ record { words = pos 1 ∷ pos 2 ∷ pos 3 ∷ pos 0 ∷ []; given = negsuc 1 ∷ []; allowance = 1; room = 2 ∷ 2 ∷ 2 ∷ []; number = 0; clauses = 1; left = 2 ∷ 0 ∷ 2 ∷ [] }
+          ∷ record { words = pos 1 ∷ negsuc 0 ∷ pos 0 ∷ []; given = []; allowance = 1; room = 2 ∷ []; number = 0; clauses = 1; left = 2 ∷ [] }
+          ∷ record { words = pos 1 ∷ pos 1 ∷ negsuc 0 ∷ pos 0 ∷ []; given = []; allowance = 1; room = 2 ∷ []; number = 0; clauses = 1; left = 2 ∷ [] }
+          ∷ record { words = pos 1 ∷ pos 2 ∷ negsuc 1 ∷ pos 0 ∷ []; given = negsuc 0 ∷ []; allowance = 1; room = 2 ∷ 2 ∷ []; number = 0; clauses = 1; left = 0 ∷ 2 ∷ [] }
+          ∷ record { words = pos 1 ∷ negsuc 0 ∷ pos 0 ∷ []; given = negsuc 0 ∷ []; allowance = 1; room = 2 ∷ []; number = 0; clauses = 1; left = 0 ∷ [] }
+          ∷ record { words = pos 1 ∷ pos 0 ∷ []; given = []; allowance = 0; room = 2 ∷ []; number = 20; clauses = 0; left = 2 ∷ [] }
+          ∷ record { words = pos 1 ∷ pos 0 ∷ pos 2 ∷ pos 0 ∷ []; given = []; allowance = 1; room = 2 ∷ 2 ∷ []; number = 20; clauses = 0; left = 2 ∷ 2 ∷ [] }
+          ∷ record { words = pos 1 ∷ pos 0 ∷ pos 2 ∷ pos 0 ∷ []; given = []; allowance = 18446744073709551615; room = 2 ∷ 2 ∷ []; number = 0; clauses = 2; left = 1 ∷ 1 ∷ [] }
+          ∷ record { words = pos 0 ∷ []; given = []; allowance = 0; room = []; number = 20; clauses = 0; left = [] }
+          ∷ record { words = pos 1 ∷ []; given = []; allowance = 0; room = 2 ∷ []; number = 20; clauses = 0; left = 2 ∷ [] }
+          ∷ record { words = pos 1 ∷ pos 0 ∷ pos 3 ∷ pos 0 ∷ []; given = []; allowance = 1; room = 2 ∷ 2 ∷ []; number = 20; clauses = 0; left = 2 ∷ 2 ∷ [] }
+          ∷ record { words = pos 1 ∷ pos 0 ∷ negsuc 0 ∷ []; given = []; allowance = 1; room = 2 ∷ []; number = 20; clauses = 0; left = 2 ∷ [] }
+          ∷ record { words = pos 1 ∷ []; given = []; allowance = 1; room = 2 ∷ []; number = 21; clauses = 0; left = 2 ∷ [] }
+          ∷ record { words = pos 1 ∷ pos 0 ∷ pos 2 ∷ []; given = []; allowance = 2; room = 2 ∷ 2 ∷ []; number = 21; clauses = 0; left = 2 ∷ 2 ∷ [] }
+          ∷ record { words = pos 2 ∷ pos 0 ∷ []; given = []; allowance = 1; room = 2 ∷ []; number = 21; clauses = 0; left = 2 ∷ [] }
+          ∷ record { words = negsuc 1 ∷ pos 0 ∷ []; given = []; allowance = 1; room = 2 ∷ []; number = 21; clauses = 0; left = 2 ∷ [] }
+          ∷ record { words = pos 1 ∷ pos 0 ∷ []; given = []; allowance = 1; room = []; number = 21; clauses = 0; left = [] }
+          ∷ record { words = pos 1 ∷ pos 2 ∷ pos 0 ∷ []; given = pos 1 ∷ []; allowance = 1; room = 2 ∷ []; number = 21; clauses = 0; left = 2 ∷ [] }
+          ∷ record { words = negsuc 2147483647 ∷ pos 0 ∷ []; given = []; allowance = 1; room = 2 ∷ 2 ∷ []; number = 21; clauses = 0; left = 2 ∷ 2 ∷ [] }
+          ∷ record { words = pos 1 ∷ pos 2147483647 ∷ pos 0 ∷ []; given = []; allowance = 1; room = 2 ∷ []; number = 21; clauses = 0; left = 2 ∷ [] }
+          ∷ record { words = negsuc 0 ∷ []; given = pos 1 ∷ []; allowance = 1; room = 2 ∷ []; number = 21; clauses = 0; left = 2 ∷ [] }
+          ∷ record { words = negsuc 0 ∷ pos 2 ∷ pos 0 ∷ []; given = pos 1 ∷ []; allowance = 1; room = 2 ∷ []; number = 21; clauses = 0; left = 2 ∷ [] }
+          ∷ record { words = pos 2 ∷ pos 0 ∷ pos 0 ∷ []; given = []; allowance = 1; room = 2 ∷ []; number = 21; clauses = 0; left = 2 ∷ [] }
+          ∷ record { words = pos 0 ∷ []; given = []; allowance = 1; room = []; number = 22; clauses = 0; left = [] }
+          ∷ record { words = pos 1 ∷ pos 0 ∷ pos 0 ∷ []; given = []; allowance = 2; room = 2 ∷ []; number = 22; clauses = 0; left = 2 ∷ [] }
+          ∷ record { words = pos 1 ∷ pos 0 ∷ negsuc 0 ∷ pos 0 ∷ []; given = []; allowance = 2; room = 2 ∷ []; number = 22; clauses = 0; left = 2 ∷ [] }
+          ∷ record { words = negsuc 0 ∷ negsuc 1 ∷ negsuc 0 ∷ pos 0 ∷ []; given = pos 1 ∷ pos 2 ∷ []; allowance = 1; room = 2 ∷ 2 ∷ []; number = 22; clauses = 0; left = 2 ∷ 2 ∷ [] }
+          ∷ record { words = negsuc 0 ∷ pos 0 ∷ pos 2 ∷ []; given = pos 1 ∷ []; allowance = 2; room = 2 ∷ []; number = 22; clauses = 0; left = 2 ∷ [] }
+          ∷ record { words = pos 0 ∷ pos 0 ∷ []; given = []; allowance = 1; room = 2 ∷ []; number = 22; clauses = 0; left = 2 ∷ [] }
+          ∷ record { words = []; given = []; allowance = 0; room = 3 ∷ []; number = 26; clauses = 0; left = 3 ∷ [] }
+          ∷ record { words = []; given = []; allowance = 0; room = 2 ∷ 1 ∷ []; number = 26; clauses = 0; left = 2 ∷ 1 ∷ [] }
+          ∷ record { words = []; given = []; allowance = 0; room = 0 ∷ 2 ∷ []; number = 26; clauses = 0; left = 0 ∷ 2 ∷ [] }
+          ∷ record { words = pos 1 ∷ pos 0 ∷ []; given = pos 0 ∷ []; allowance = 1; room = 2 ∷ []; number = 26; clauses = 0; left = 2 ∷ [] }
+          ∷ record { words = pos 1 ∷ pos 0 ∷ []; given = pos 2 ∷ []; allowance = 1; room = 2 ∷ []; number = 26; clauses = 0; left = 2 ∷ [] }
+          ∷ record { words = pos 1 ∷ pos 0 ∷ []; given = negsuc 1 ∷ []; allowance = 1; room = 2 ∷ []; number = 26; clauses = 0; left = 2 ∷ [] }
+          ∷ record { words = pos 1 ∷ pos 0 ∷ []; given = pos 1 ∷ pos 1 ∷ []; allowance = 1; room = 2 ∷ []; number = 26; clauses = 0; left = 2 ∷ [] }
+          ∷ record { words = pos 1 ∷ pos 0 ∷ []; given = negsuc 0 ∷ pos 1 ∷ []; allowance = 1; room = 2 ∷ []; number = 26; clauses = 0; left = 2 ∷ [] }
+          ∷ record { words = pos 1 ∷ pos 0 ∷ []; given = negsuc 2147483647 ∷ []; allowance = 1; room = 2 ∷ []; number = 26; clauses = 0; left = 2 ∷ [] }
+          ∷ record { words = pos 1 ∷ pos 0 ∷ []; given = pos 2147483647 ∷ []; allowance = 1; room = 2 ∷ []; number = 26; clauses = 0; left = 2 ∷ [] }
+          ∷ record { words = []; given = pos 1 ∷ []; allowance = 0; room = []; number = 26; clauses = 0; left = [] }
+          ∷ record { words = negsuc 1 ∷ []; given = pos 1 ∷ pos 2 ∷ negsuc 0 ∷ []; allowance = 0; room = 2 ∷ 2 ∷ []; number = 26; clauses = 0; left = 2 ∷ 2 ∷ [] }
+          ∷ record { words = pos 0 ∷ pos 5 ∷ []; given = []; allowance = 0; room = 1 ∷ []; number = 26; clauses = 0; left = 1 ∷ [] }
+          ∷ record { words = pos 1 ∷ pos 2 ∷ negsuc 2 ∷ pos 0 ∷ pos 1 ∷ negsuc 1 ∷ pos 3 ∷ pos 0 ∷ negsuc 0 ∷ pos 2 ∷ pos 3 ∷ pos 0 ∷ negsuc 0 ∷ negsuc 1 ∷ negsuc 2 ∷ pos 0 ∷ pos 1 ∷ negsuc 3 ∷ pos 0 ∷ pos 2 ∷ negsuc 3 ∷ pos 0 ∷ negsuc 0 ∷ negsuc 1 ∷ pos 4 ∷ pos 0 ∷ pos 2 ∷ pos 4 ∷ negsuc 4 ∷ pos 0 ∷ pos 2 ∷ negsuc 3 ∷ pos 5 ∷ pos 0 ∷ negsuc 1 ∷ pos 4 ∷ pos 5 ∷ pos 0 ∷ negsuc 1 ∷ negsuc 3 ∷ negsuc 4 ∷ pos 0 ∷ pos 2 ∷ negsuc 5 ∷ pos 0 ∷ pos 4 ∷ negsuc 5 ∷ pos 0 ∷ negsuc 1 ∷ negsuc 3 ∷ pos 6 ∷ pos 0 ∷ []; given = negsuc 0 ∷ negsuc 1 ∷ []; allowance = 14; room = 2 ∷ 2 ∷ 2 ∷ 2 ∷ 2 ∷ 2 ∷ []; number = 0; clauses = 14; left = 0 ∷ 0 ∷ 0 ∷ 0 ∷ 0 ∷ 0 ∷ [] }
+          ∷ record { words = pos 1 ∷ pos 2 ∷ negsuc 2 ∷ pos 0 ∷ pos 1 ∷ negsuc 1 ∷ pos 3 ∷ pos 0 ∷ negsuc 0 ∷ pos 2 ∷ pos 3 ∷ pos 0 ∷ negsuc 0 ∷ negsuc 1 ∷ negsuc 2 ∷ pos 0 ∷ pos 1 ∷ negsuc 3 ∷ pos 0 ∷ pos 2 ∷ negsuc 3 ∷ pos 0 ∷ negsuc 0 ∷ negsuc 1 ∷ pos 4 ∷ pos 0 ∷ pos 2 ∷ pos 4 ∷ negsuc 4 ∷ pos 0 ∷ pos 2 ∷ negsuc 3 ∷ pos 5 ∷ pos 0 ∷ negsuc 1 ∷ pos 4 ∷ pos 5 ∷ pos 0 ∷ negsuc 1 ∷ negsuc 3 ∷ negsuc 4 ∷ pos 0 ∷ pos 2 ∷ negsuc 5 ∷ pos 0 ∷ pos 4 ∷ negsuc 5 ∷ pos 0 ∷ negsuc 1 ∷ negsuc 3 ∷ pos 6 ∷ pos 0 ∷ []; given = pos 1 ∷ negsuc 1 ∷ []; allowance = 14; room = 2 ∷ 2 ∷ 2 ∷ 2 ∷ 2 ∷ 2 ∷ []; number = 0; clauses = 14; left = 1 ∷ 0 ∷ 1 ∷ 0 ∷ 0 ∷ 0 ∷ [] }
+          ∷ record { words = pos 1 ∷ pos 2 ∷ negsuc 2 ∷ pos 0 ∷ pos 1 ∷ negsuc 1 ∷ pos 3 ∷ pos 0 ∷ negsuc 0 ∷ pos 2 ∷ pos 3 ∷ pos 0 ∷ negsuc 0 ∷ negsuc 1 ∷ negsuc 2 ∷ pos 0 ∷ pos 1 ∷ negsuc 3 ∷ pos 0 ∷ pos 2 ∷ negsuc 3 ∷ pos 0 ∷ negsuc 0 ∷ negsuc 1 ∷ pos 4 ∷ pos 0 ∷ pos 2 ∷ pos 4 ∷ negsuc 4 ∷ pos 0 ∷ pos 2 ∷ negsuc 3 ∷ pos 5 ∷ pos 0 ∷ negsuc 1 ∷ pos 4 ∷ pos 5 ∷ pos 0 ∷ negsuc 1 ∷ negsuc 3 ∷ negsuc 4 ∷ pos 0 ∷ pos 2 ∷ negsuc 5 ∷ pos 0 ∷ pos 4 ∷ negsuc 5 ∷ pos 0 ∷ negsuc 1 ∷ negsuc 3 ∷ pos 6 ∷ pos 0 ∷ []; given = negsuc 0 ∷ pos 2 ∷ []; allowance = 14; room = 2 ∷ 2 ∷ 2 ∷ 2 ∷ 2 ∷ 2 ∷ []; number = 0; clauses = 14; left = 0 ∷ 1 ∷ 1 ∷ 0 ∷ 1 ∷ 0 ∷ [] }
+          ∷ record { words = pos 1 ∷ pos 2 ∷ negsuc 2 ∷ pos 0 ∷ pos 1 ∷ negsuc 1 ∷ pos 3 ∷ pos 0 ∷ negsuc 0 ∷ pos 2 ∷ pos 3 ∷ pos 0 ∷ negsuc 0 ∷ negsuc 1 ∷ negsuc 2 ∷ pos 0 ∷ pos 1 ∷ negsuc 3 ∷ pos 0 ∷ pos 2 ∷ negsuc 3 ∷ pos 0 ∷ negsuc 0 ∷ negsuc 1 ∷ pos 4 ∷ pos 0 ∷ pos 2 ∷ pos 4 ∷ negsuc 4 ∷ pos 0 ∷ pos 2 ∷ negsuc 3 ∷ pos 5 ∷ pos 0 ∷ negsuc 1 ∷ pos 4 ∷ pos 5 ∷ pos 0 ∷ negsuc 1 ∷ negsuc 3 ∷ negsuc 4 ∷ pos 0 ∷ pos 2 ∷ negsuc 5 ∷ pos 0 ∷ pos 4 ∷ negsuc 5 ∷ pos 0 ∷ negsuc 1 ∷ negsuc 3 ∷ pos 6 ∷ pos 0 ∷ []; given = pos 1 ∷ pos 2 ∷ []; allowance = 14; room = 2 ∷ 2 ∷ 2 ∷ 2 ∷ 2 ∷ 2 ∷ []; number = 0; clauses = 14; left = 1 ∷ 1 ∷ 0 ∷ 1 ∷ 0 ∷ 1 ∷ [] }
+          ∷ record { words = pos 2 ∷ pos 3 ∷ negsuc 3 ∷ pos 0 ∷ pos 2 ∷ negsuc 2 ∷ pos 4 ∷ pos 0 ∷ negsuc 1 ∷ pos 3 ∷ pos 4 ∷ pos 0 ∷ negsuc 1 ∷ negsuc 2 ∷ negsuc 3 ∷ pos 0 ∷ pos 2 ∷ negsuc 4 ∷ pos 0 ∷ pos 3 ∷ negsuc 4 ∷ pos 0 ∷ negsuc 1 ∷ negsuc 2 ∷ pos 5 ∷ pos 0 ∷ negsuc 0 ∷ pos 5 ∷ negsuc 5 ∷ pos 0 ∷ negsuc 0 ∷ negsuc 4 ∷ pos 6 ∷ pos 0 ∷ pos 1 ∷ pos 5 ∷ pos 6 ∷ pos 0 ∷ pos 1 ∷ negsuc 4 ∷ negsuc 5 ∷ pos 0 ∷ negsuc 0 ∷ negsuc 6 ∷ pos 0 ∷ pos 5 ∷ negsuc 6 ∷ pos 0 ∷ pos 1 ∷ negsuc 4 ∷ pos 7 ∷ pos 0 ∷ pos 3 ∷ pos 7 ∷ negsuc 7 ∷ pos 0 ∷ pos 3 ∷ negsuc 6 ∷ pos 8 ∷ pos 0 ∷ negsuc 2 ∷ pos 7 ∷ pos 8 ∷ pos 0 ∷ negsuc 2 ∷ negsuc 6 ∷ negsuc 7 ∷ pos 0 ∷ pos 3 ∷ negsuc 8 ∷ pos 0 ∷ pos 7 ∷ negsuc 8 ∷ pos 0 ∷ negsuc 2 ∷ negsuc 6 ∷ pos 9 ∷ pos 0 ∷ []; given = negsuc 1 ∷ pos 1 ∷ negsuc 2 ∷ []; allowance = 21; room = 2 ∷ 2 ∷ 2 ∷ 2 ∷ 2 ∷ 2 ∷ 2 ∷ 2 ∷ 2 ∷ []; number = 0; clauses = 21; left = 1 ∷ 0 ∷ 0 ∷ 0 ∷ 0 ∷ 0 ∷ 0 ∷ 0 ∷ 0 ∷ [] }
+          ∷ record { words = pos 2 ∷ pos 3 ∷ negsuc 3 ∷ pos 0 ∷ pos 2 ∷ negsuc 2 ∷ pos 4 ∷ pos 0 ∷ negsuc 1 ∷ pos 3 ∷ pos 4 ∷ pos 0 ∷ negsuc 1 ∷ negsuc 2 ∷ negsuc 3 ∷ pos 0 ∷ pos 2 ∷ negsuc 4 ∷ pos 0 ∷ pos 3 ∷ negsuc 4 ∷ pos 0 ∷ negsuc 1 ∷ negsuc 2 ∷ pos 5 ∷ pos 0 ∷ negsuc 0 ∷ pos 5 ∷ negsuc 5 ∷ pos 0 ∷ negsuc 0 ∷ negsuc 4 ∷ pos 6 ∷ pos 0 ∷ pos 1 ∷ pos 5 ∷ pos 6 ∷ pos 0 ∷ pos 1 ∷ negsuc 4 ∷ negsuc 5 ∷ pos 0 ∷ negsuc 0 ∷ negsuc 6 ∷ pos 0 ∷ pos 5 ∷ negsuc 6 ∷ pos 0 ∷ pos 1 ∷ negsuc 4 ∷ pos 7 ∷ pos 0 ∷ pos 3 ∷ pos 7 ∷ negsuc 7 ∷ pos 0 ∷ pos 3 ∷ negsuc 6 ∷ pos 8 ∷ pos 0 ∷ negsuc 2 ∷ pos 7 ∷ pos 8 ∷ pos 0 ∷ negsuc 2 ∷ negsuc 6 ∷ negsuc 7 ∷ pos 0 ∷ pos 3 ∷ negsuc 8 ∷ pos 0 ∷ pos 7 ∷ negsuc 8 ∷ pos 0 ∷ negsuc 2 ∷ negsuc 6 ∷ pos 9 ∷ pos 0 ∷ []; given = pos 2 ∷ pos 1 ∷ negsuc 2 ∷ []; allowance = 21; room = 2 ∷ 2 ∷ 2 ∷ 2 ∷ 2 ∷ 2 ∷ 2 ∷ 2 ∷ 2 ∷ []; number = 0; clauses = 21; left = 1 ∷ 1 ∷ 0 ∷ 1 ∷ 0 ∷ 0 ∷ 0 ∷ 0 ∷ 0 ∷ [] }
+          ∷ record { words = pos 2 ∷ pos 3 ∷ negsuc 3 ∷ pos 0 ∷ pos 2 ∷ negsuc 2 ∷ pos 4 ∷ pos 0 ∷ negsuc 1 ∷ pos 3 ∷ pos 4 ∷ pos 0 ∷ negsuc 1 ∷ negsuc 2 ∷ negsuc 3 ∷ pos 0 ∷ pos 2 ∷ negsuc 4 ∷ pos 0 ∷ pos 3 ∷ negsuc 4 ∷ pos 0 ∷ negsuc 1 ∷ negsuc 2 ∷ pos 5 ∷ pos 0 ∷ negsuc 0 ∷ pos 5 ∷ negsuc 5 ∷ pos 0 ∷ negsuc 0 ∷ negsuc 4 ∷ pos 6 ∷ pos 0 ∷ pos 1 ∷ pos 5 ∷ pos 6 ∷ pos 0 ∷ pos 1 ∷ negsuc 4 ∷ negsuc 5 ∷ pos 0 ∷ negsuc 0 ∷ negsuc 6 ∷ pos 0 ∷ pos 5 ∷ negsuc 6 ∷ pos 0 ∷ pos 1 ∷ negsuc 4 ∷ pos 7 ∷ pos 0 ∷ pos 3 ∷ pos 7 ∷ negsuc 7 ∷ pos 0 ∷ pos 3 ∷ negsuc 6 ∷ pos 8 ∷ pos 0 ∷ negsuc 2 ∷ pos 7 ∷ pos 8 ∷ pos 0 ∷ negsuc 2 ∷ negsuc 6 ∷ negsuc 7 ∷ pos 0 ∷ pos 3 ∷ negsuc 8 ∷ pos 0 ∷ pos 7 ∷ negsuc 8 ∷ pos 0 ∷ negsuc 2 ∷ negsuc 6 ∷ pos 9 ∷ pos 0 ∷ []; given = negsuc 1 ∷ negsuc 0 ∷ negsuc 2 ∷ []; allowance = 21; room = 2 ∷ 2 ∷ 2 ∷ 2 ∷ 2 ∷ 2 ∷ 2 ∷ 2 ∷ 2 ∷ []; number = 0; clauses = 21; left = 0 ∷ 0 ∷ 0 ∷ 0 ∷ 0 ∷ 1 ∷ 0 ∷ 0 ∷ 0 ∷ [] }
+          ∷ record { words = pos 2 ∷ pos 3 ∷ negsuc 3 ∷ pos 0 ∷ pos 2 ∷ negsuc 2 ∷ pos 4 ∷ pos 0 ∷ negsuc 1 ∷ pos 3 ∷ pos 4 ∷ pos 0 ∷ negsuc 1 ∷ negsuc 2 ∷ negsuc 3 ∷ pos 0 ∷ pos 2 ∷ negsuc 4 ∷ pos 0 ∷ pos 3 ∷ negsuc 4 ∷ pos 0 ∷ negsuc 1 ∷ negsuc 2 ∷ pos 5 ∷ pos 0 ∷ negsuc 0 ∷ pos 5 ∷ negsuc 5 ∷ pos 0 ∷ negsuc 0 ∷ negsuc 4 ∷ pos 6 ∷ pos 0 ∷ pos 1 ∷ pos 5 ∷ pos 6 ∷ pos 0 ∷ pos 1 ∷ negsuc 4 ∷ negsuc 5 ∷ pos 0 ∷ negsuc 0 ∷ negsuc 6 ∷ pos 0 ∷ pos 5 ∷ negsuc 6 ∷ pos 0 ∷ pos 1 ∷ negsuc 4 ∷ pos 7 ∷ pos 0 ∷ pos 3 ∷ pos 7 ∷ negsuc 7 ∷ pos 0 ∷ pos 3 ∷ negsuc 6 ∷ pos 8 ∷ pos 0 ∷ negsuc 2 ∷ pos 7 ∷ pos 8 ∷ pos 0 ∷ negsuc 2 ∷ negsuc 6 ∷ negsuc 7 ∷ pos 0 ∷ pos 3 ∷ negsuc 8 ∷ pos 0 ∷ pos 7 ∷ negsuc 8 ∷ pos 0 ∷ negsuc 2 ∷ negsuc 6 ∷ pos 9 ∷ pos 0 ∷ []; given = pos 2 ∷ negsuc 0 ∷ negsuc 2 ∷ []; allowance = 21; room = 2 ∷ 2 ∷ 2 ∷ 2 ∷ 2 ∷ 2 ∷ 2 ∷ 2 ∷ 2 ∷ []; number = 0; clauses = 21; left = 0 ∷ 1 ∷ 0 ∷ 1 ∷ 0 ∷ 1 ∷ 0 ∷ 0 ∷ 0 ∷ [] }
+          ∷ record { words = pos 2 ∷ pos 3 ∷ negsuc 3 ∷ pos 0 ∷ pos 2 ∷ negsuc 2 ∷ pos 4 ∷ pos 0 ∷ negsuc 1 ∷ pos 3 ∷ pos 4 ∷ pos 0 ∷ negsuc 1 ∷ negsuc 2 ∷ negsuc 3 ∷ pos 0 ∷ pos 2 ∷ negsuc 4 ∷ pos 0 ∷ pos 3 ∷ negsuc 4 ∷ pos 0 ∷ negsuc 1 ∷ negsuc 2 ∷ pos 5 ∷ pos 0 ∷ negsuc 0 ∷ pos 5 ∷ negsuc 5 ∷ pos 0 ∷ negsuc 0 ∷ negsuc 4 ∷ pos 6 ∷ pos 0 ∷ pos 1 ∷ pos 5 ∷ pos 6 ∷ pos 0 ∷ pos 1 ∷ negsuc 4 ∷ negsuc 5 ∷ pos 0 ∷ negsuc 0 ∷ negsuc 6 ∷ pos 0 ∷ pos 5 ∷ negsuc 6 ∷ pos 0 ∷ pos 1 ∷ negsuc 4 ∷ pos 7 ∷ pos 0 ∷ pos 3 ∷ pos 7 ∷ negsuc 7 ∷ pos 0 ∷ pos 3 ∷ negsuc 6 ∷ pos 8 ∷ pos 0 ∷ negsuc 2 ∷ pos 7 ∷ pos 8 ∷ pos 0 ∷ negsuc 2 ∷ negsuc 6 ∷ negsuc 7 ∷ pos 0 ∷ pos 3 ∷ negsuc 8 ∷ pos 0 ∷ pos 7 ∷ negsuc 8 ∷ pos 0 ∷ negsuc 2 ∷ negsuc 6 ∷ pos 9 ∷ pos 0 ∷ []; given = negsuc 1 ∷ pos 1 ∷ pos 3 ∷ []; allowance = 21; room = 2 ∷ 2 ∷ 2 ∷ 2 ∷ 2 ∷ 2 ∷ 2 ∷ 2 ∷ 2 ∷ []; number = 0; clauses = 21; left = 1 ∷ 0 ∷ 1 ∷ 1 ∷ 0 ∷ 0 ∷ 0 ∷ 1 ∷ 0 ∷ [] }
+          ∷ record { words = pos 2 ∷ pos 3 ∷ negsuc 3 ∷ pos 0 ∷ pos 2 ∷ negsuc 2 ∷ pos 4 ∷ pos 0 ∷ negsuc 1 ∷ pos 3 ∷ pos 4 ∷ pos 0 ∷ negsuc 1 ∷ negsuc 2 ∷ negsuc 3 ∷ pos 0 ∷ pos 2 ∷ negsuc 4 ∷ pos 0 ∷ pos 3 ∷ negsuc 4 ∷ pos 0 ∷ negsuc 1 ∷ negsuc 2 ∷ pos 5 ∷ pos 0 ∷ negsuc 0 ∷ pos 5 ∷ negsuc 5 ∷ pos 0 ∷ negsuc 0 ∷ negsuc 4 ∷ pos 6 ∷ pos 0 ∷ pos 1 ∷ pos 5 ∷ pos 6 ∷ pos 0 ∷ pos 1 ∷ negsuc 4 ∷ negsuc 5 ∷ pos 0 ∷ negsuc 0 ∷ negsuc 6 ∷ pos 0 ∷ pos 5 ∷ negsuc 6 ∷ pos 0 ∷ pos 1 ∷ negsuc 4 ∷ pos 7 ∷ pos 0 ∷ pos 3 ∷ pos 7 ∷ negsuc 7 ∷ pos 0 ∷ pos 3 ∷ negsuc 6 ∷ pos 8 ∷ pos 0 ∷ negsuc 2 ∷ pos 7 ∷ pos 8 ∷ pos 0 ∷ negsuc 2 ∷ negsuc 6 ∷ negsuc 7 ∷ pos 0 ∷ pos 3 ∷ negsuc 8 ∷ pos 0 ∷ pos 7 ∷ negsuc 8 ∷ pos 0 ∷ negsuc 2 ∷ negsuc 6 ∷ pos 9 ∷ pos 0 ∷ []; given = pos 2 ∷ pos 1 ∷ pos 3 ∷ []; allowance = 21; room = 2 ∷ 2 ∷ 2 ∷ 2 ∷ 2 ∷ 2 ∷ 2 ∷ 2 ∷ 2 ∷ []; number = 0; clauses = 21; left = 1 ∷ 1 ∷ 1 ∷ 0 ∷ 1 ∷ 1 ∷ 0 ∷ 1 ∷ 0 ∷ [] }
+          ∷ record { words = pos 2 ∷ pos 3 ∷ negsuc 3 ∷ pos 0 ∷ pos 2 ∷ negsuc 2 ∷ pos 4 ∷ pos 0 ∷ negsuc 1 ∷ pos 3 ∷ pos 4 ∷ pos 0 ∷ negsuc 1 ∷ negsuc 2 ∷ negsuc 3 ∷ pos 0 ∷ pos 2 ∷ negsuc 4 ∷ pos 0 ∷ pos 3 ∷ negsuc 4 ∷ pos 0 ∷ negsuc 1 ∷ negsuc 2 ∷ pos 5 ∷ pos 0 ∷ negsuc 0 ∷ pos 5 ∷ negsuc 5 ∷ pos 0 ∷ negsuc 0 ∷ negsuc 4 ∷ pos 6 ∷ pos 0 ∷ pos 1 ∷ pos 5 ∷ pos 6 ∷ pos 0 ∷ pos 1 ∷ negsuc 4 ∷ negsuc 5 ∷ pos 0 ∷ negsuc 0 ∷ negsuc 6 ∷ pos 0 ∷ pos 5 ∷ negsuc 6 ∷ pos 0 ∷ pos 1 ∷ negsuc 4 ∷ pos 7 ∷ pos 0 ∷ pos 3 ∷ pos 7 ∷ negsuc 7 ∷ pos 0 ∷ pos 3 ∷ negsuc 6 ∷ pos 8 ∷ pos 0 ∷ negsuc 2 ∷ pos 7 ∷ pos 8 ∷ pos 0 ∷ negsuc 2 ∷ negsuc 6 ∷ negsuc 7 ∷ pos 0 ∷ pos 3 ∷ negsuc 8 ∷ pos 0 ∷ pos 7 ∷ negsuc 8 ∷ pos 0 ∷ negsuc 2 ∷ negsuc 6 ∷ pos 9 ∷ pos 0 ∷ []; given = negsuc 1 ∷ negsuc 0 ∷ pos 3 ∷ []; allowance = 21; room = 2 ∷ 2 ∷ 2 ∷ 2 ∷ 2 ∷ 2 ∷ 2 ∷ 2 ∷ 2 ∷ []; number = 0; clauses = 21; left = 0 ∷ 0 ∷ 1 ∷ 1 ∷ 0 ∷ 1 ∷ 0 ∷ 1 ∷ 0 ∷ [] }
+          ∷ record { words = pos 2 ∷ pos 3 ∷ negsuc 3 ∷ pos 0 ∷ pos 2 ∷ negsuc 2 ∷ pos 4 ∷ pos 0 ∷ negsuc 1 ∷ pos 3 ∷ pos 4 ∷ pos 0 ∷ negsuc 1 ∷ negsuc 2 ∷ negsuc 3 ∷ pos 0 ∷ pos 2 ∷ negsuc 4 ∷ pos 0 ∷ pos 3 ∷ negsuc 4 ∷ pos 0 ∷ negsuc 1 ∷ negsuc 2 ∷ pos 5 ∷ pos 0 ∷ negsuc 0 ∷ pos 5 ∷ negsuc 5 ∷ pos 0 ∷ negsuc 0 ∷ negsuc 4 ∷ pos 6 ∷ pos 0 ∷ pos 1 ∷ pos 5 ∷ pos 6 ∷ pos 0 ∷ pos 1 ∷ negsuc 4 ∷ negsuc 5 ∷ pos 0 ∷ negsuc 0 ∷ negsuc 6 ∷ pos 0 ∷ pos 5 ∷ negsuc 6 ∷ pos 0 ∷ pos 1 ∷ negsuc 4 ∷ pos 7 ∷ pos 0 ∷ pos 3 ∷ pos 7 ∷ negsuc 7 ∷ pos 0 ∷ pos 3 ∷ negsuc 6 ∷ pos 8 ∷ pos 0 ∷ negsuc 2 ∷ pos 7 ∷ pos 8 ∷ pos 0 ∷ negsuc 2 ∷ negsuc 6 ∷ negsuc 7 ∷ pos 0 ∷ pos 3 ∷ negsuc 8 ∷ pos 0 ∷ pos 7 ∷ negsuc 8 ∷ pos 0 ∷ negsuc 2 ∷ negsuc 6 ∷ pos 9 ∷ pos 0 ∷ []; given = pos 2 ∷ negsuc 0 ∷ pos 3 ∷ []; allowance = 21; room = 2 ∷ 2 ∷ 2 ∷ 2 ∷ 2 ∷ 2 ∷ 2 ∷ 2 ∷ 2 ∷ []; number = 0; clauses = 21; left = 0 ∷ 1 ∷ 1 ∷ 0 ∷ 1 ∷ 0 ∷ 1 ∷ 0 ∷ 1 ∷ [] }
+          ∷ record { words = negsuc 0 ∷ pos 3 ∷ negsuc 4 ∷ pos 0 ∷ negsuc 0 ∷ negsuc 2 ∷ pos 5 ∷ pos 0 ∷ pos 1 ∷ pos 3 ∷ pos 5 ∷ pos 0 ∷ pos 1 ∷ negsuc 2 ∷ negsuc 4 ∷ pos 0 ∷ negsuc 0 ∷ negsuc 5 ∷ pos 0 ∷ pos 3 ∷ negsuc 5 ∷ pos 0 ∷ pos 1 ∷ negsuc 2 ∷ pos 6 ∷ pos 0 ∷ negsuc 2 ∷ pos 6 ∷ pos 7 ∷ pos 0 ∷ negsuc 2 ∷ negsuc 5 ∷ negsuc 6 ∷ pos 0 ∷ pos 3 ∷ pos 6 ∷ negsuc 6 ∷ pos 0 ∷ pos 3 ∷ negsuc 5 ∷ pos 7 ∷ pos 0 ∷ pos 3 ∷ pos 8 ∷ pos 0 ∷ negsuc 5 ∷ pos 8 ∷ pos 0 ∷ negsuc 2 ∷ pos 6 ∷ negsuc 7 ∷ pos 0 ∷ pos 1 ∷ pos 8 ∷ pos 9 ∷ pos 0 ∷ pos 1 ∷ negsuc 7 ∷ negsuc 8 ∷ pos 0 ∷ negsuc 0 ∷ pos 8 ∷ negsuc 8 ∷ pos 0 ∷ negsuc 0 ∷ negsuc 7 ∷ pos 9 ∷ pos 0 ∷ []; given = pos 3 ∷ negsuc 0 ∷ []; allowance = 18; room = 2 ∷ 2 ∷ 2 ∷ 2 ∷ 2 ∷ 2 ∷ 2 ∷ 2 ∷ 2 ∷ []; number = 0; clauses = 18; left = 0 ∷ 2 ∷ 1 ∷ 2 ∷ 0 ∷ 1 ∷ 0 ∷ 1 ∷ 0 ∷ [] }
+          ∷ record { words = negsuc 0 ∷ pos 3 ∷ negsuc 4 ∷ pos 0 ∷ negsuc 0 ∷ negsuc 2 ∷ pos 5 ∷ pos 0 ∷ pos 1 ∷ pos 3 ∷ pos 5 ∷ pos 0 ∷ pos 1 ∷ negsuc 2 ∷ negsuc 4 ∷ pos 0 ∷ negsuc 0 ∷ negsuc 5 ∷ pos 0 ∷ pos 3 ∷ negsuc 5 ∷ pos 0 ∷ pos 1 ∷ negsuc 2 ∷ pos 6 ∷ pos 0 ∷ negsuc 2 ∷ pos 6 ∷ pos 7 ∷ pos 0 ∷ negsuc 2 ∷ negsuc 5 ∷ negsuc 6 ∷ pos 0 ∷ pos 3 ∷ pos 6 ∷ negsuc 6 ∷ pos 0 ∷ pos 3 ∷ negsuc 5 ∷ pos 7 ∷ pos 0 ∷ pos 3 ∷ pos 8 ∷ pos 0 ∷ negsuc 5 ∷ pos 8 ∷ pos 0 ∷ negsuc 2 ∷ pos 6 ∷ negsuc 7 ∷ pos 0 ∷ pos 1 ∷ pos 8 ∷ pos 9 ∷ pos 0 ∷ pos 1 ∷ negsuc 7 ∷ negsuc 8 ∷ pos 0 ∷ negsuc 0 ∷ pos 8 ∷ negsuc 8 ∷ pos 0 ∷ negsuc 0 ∷ negsuc 7 ∷ pos 9 ∷ pos 0 ∷ []; given = negsuc 2 ∷ negsuc 0 ∷ []; allowance = 18; room = 2 ∷ 2 ∷ 2 ∷ 2 ∷ 2 ∷ 2 ∷ 2 ∷ 2 ∷ 2 ∷ []; number = 0; clauses = 18; left = 0 ∷ 2 ∷ 0 ∷ 2 ∷ 1 ∷ 0 ∷ 0 ∷ 1 ∷ 0 ∷ [] }
+          ∷ record { words = negsuc 0 ∷ pos 3 ∷ negsuc 4 ∷ pos 0 ∷ negsuc 0 ∷ negsuc 2 ∷ pos 5 ∷ pos 0 ∷ pos 1 ∷ pos 3 ∷ pos 5 ∷ pos 0 ∷ pos 1 ∷ negsuc 2 ∷ negsuc 4 ∷ pos 0 ∷ negsuc 0 ∷ negsuc 5 ∷ pos 0 ∷ pos 3 ∷ negsuc 5 ∷ pos 0 ∷ pos 1 ∷ negsuc 2 ∷ pos 6 ∷ pos 0 ∷ negsuc 2 ∷ pos 6 ∷ pos 7 ∷ pos 0 ∷ negsuc 2 ∷ negsuc 5 ∷ negsuc 6 ∷ pos 0 ∷ pos 3 ∷ pos 6 ∷ negsuc 6 ∷ pos 0 ∷ pos 3 ∷ negsuc 5 ∷ pos 7 ∷ pos 0 ∷ pos 3 ∷ pos 8 ∷ pos 0 ∷ negsuc 5 ∷ pos 8 ∷ pos 0 ∷ negsuc 2 ∷ pos 6 ∷ negsuc 7 ∷ pos 0 ∷ pos 1 ∷ pos 8 ∷ pos 9 ∷ pos 0 ∷ pos 1 ∷ negsuc 7 ∷ negsuc 8 ∷ pos 0 ∷ negsuc 0 ∷ pos 8 ∷ negsuc 8 ∷ pos 0 ∷ negsuc 0 ∷ negsuc 7 ∷ pos 9 ∷ pos 0 ∷ []; given = pos 3 ∷ pos 1 ∷ []; allowance = 18; room = 2 ∷ 2 ∷ 2 ∷ 2 ∷ 2 ∷ 2 ∷ 2 ∷ 2 ∷ 2 ∷ []; number = 0; clauses = 18; left = 1 ∷ 2 ∷ 1 ∷ 2 ∷ 1 ∷ 0 ∷ 1 ∷ 0 ∷ 0 ∷ [] }
+          ∷ record { words = negsuc 0 ∷ pos 3 ∷ negsuc 4 ∷ pos 0 ∷ negsuc 0 ∷ negsuc 2 ∷ pos 5 ∷ pos 0 ∷ pos 1 ∷ pos 3 ∷ pos 5 ∷ pos 0 ∷ pos 1 ∷ negsuc 2 ∷ negsuc 4 ∷ pos 0 ∷ negsuc 0 ∷ negsuc 5 ∷ pos 0 ∷ pos 3 ∷ negsuc 5 ∷ pos 0 ∷ pos 1 ∷ negsuc 2 ∷ pos 6 ∷ pos 0 ∷ negsuc 2 ∷ pos 6 ∷ pos 7 ∷ pos 0 ∷ negsuc 2 ∷ negsuc 5 ∷ negsuc 6 ∷ pos 0 ∷ pos 3 ∷ pos 6 ∷ negsuc 6 ∷ pos 0 ∷ pos 3 ∷ negsuc 5 ∷ pos 7 ∷ pos 0 ∷ pos 3 ∷ pos 8 ∷ pos 0 ∷ negsuc 5 ∷ pos 8 ∷ pos 0 ∷ negsuc 2 ∷ pos 6 ∷ negsuc 7 ∷ pos 0 ∷ pos 1 ∷ pos 8 ∷ pos 9 ∷ pos 0 ∷ pos 1 ∷ negsuc 7 ∷ negsuc 8 ∷ pos 0 ∷ negsuc 0 ∷ pos 8 ∷ negsuc 8 ∷ pos 0 ∷ negsuc 0 ∷ negsuc 7 ∷ pos 9 ∷ pos 0 ∷ []; given = negsuc 2 ∷ pos 1 ∷ []; allowance = 18; room = 2 ∷ 2 ∷ 2 ∷ 2 ∷ 2 ∷ 2 ∷ 2 ∷ 2 ∷ 2 ∷ []; number = 0; clauses = 18; left = 1 ∷ 2 ∷ 0 ∷ 2 ∷ 0 ∷ 0 ∷ 0 ∷ 1 ∷ 1 ∷ [] }
+          ∷ record { words = pos 1 ∷ pos 2 ∷ negsuc 2 ∷ pos 0 ∷ pos 1 ∷ negsuc 1 ∷ pos 3 ∷ pos 0 ∷ negsuc 0 ∷ pos 2 ∷ pos 3 ∷ pos 0 ∷ negsuc 0 ∷ negsuc 1 ∷ negsuc 2 ∷ pos 0 ∷ pos 1 ∷ negsuc 3 ∷ pos 0 ∷ pos 2 ∷ negsuc 3 ∷ pos 0 ∷ negsuc 0 ∷ negsuc 1 ∷ pos 4 ∷ pos 0 ∷ pos 2 ∷ pos 4 ∷ negsuc 4 ∷ pos 0 ∷ pos 2 ∷ negsuc 3 ∷ pos 5 ∷ pos 0 ∷ negsuc 1 ∷ pos 4 ∷ pos 5 ∷ pos 0 ∷ negsuc 1 ∷ negsuc 3 ∷ negsuc 4 ∷ pos 0 ∷ pos 2 ∷ negsuc 5 ∷ pos 0 ∷ pos 4 ∷ negsuc 5 ∷ pos 0 ∷ negsuc 1 ∷ negsuc 3 ∷ pos 6 ∷ pos 0 ∷ []; given = pos 1 ∷ pos 2 ∷ []; allowance = 13; room = 2 ∷ 2 ∷ 2 ∷ 2 ∷ 2 ∷ 2 ∷ []; number = 20; clauses = 0; left = 2 ∷ 2 ∷ 2 ∷ 2 ∷ 2 ∷ 2 ∷ [] }
+          ∷ record { words = pos 1 ∷ pos 2 ∷ negsuc 2 ∷ pos 0 ∷ pos 1 ∷ negsuc 1 ∷ pos 3 ∷ pos 0 ∷ negsuc 0 ∷ pos 2 ∷ pos 3 ∷ pos 0 ∷ negsuc 0 ∷ negsuc 1 ∷ negsuc 2 ∷ pos 0 ∷ pos 1 ∷ negsuc 3 ∷ pos 0 ∷ pos 2 ∷ negsuc 3 ∷ pos 0 ∷ negsuc 0 ∷ negsuc 1 ∷ pos 4 ∷ pos 0 ∷ pos 2 ∷ pos 4 ∷ negsuc 4 ∷ pos 0 ∷ pos 2 ∷ negsuc 3 ∷ pos 5 ∷ pos 0 ∷ negsuc 1 ∷ pos 4 ∷ pos 5 ∷ pos 0 ∷ negsuc 1 ∷ negsuc 3 ∷ negsuc 4 ∷ pos 0 ∷ pos 2 ∷ negsuc 5 ∷ pos 0 ∷ pos 4 ∷ negsuc 5 ∷ pos 0 ∷ negsuc 1 ∷ negsuc 3 ∷ pos 6 ∷ pos 0 ∷ []; given = pos 1 ∷ pos 2 ∷ []; allowance = 14; room = 2 ∷ 2 ∷ 2 ∷ 2 ∷ 2 ∷ []; number = 21; clauses = 0; left = 2 ∷ 2 ∷ 2 ∷ 2 ∷ 2 ∷ [] }
+          ∷ record { words = pos 1 ∷ pos 2 ∷ negsuc 2 ∷ pos 0 ∷ pos 1 ∷ negsuc 1 ∷ pos 3 ∷ pos 0 ∷ negsuc 0 ∷ pos 2 ∷ pos 3 ∷ pos 0 ∷ negsuc 0 ∷ negsuc 1 ∷ negsuc 2 ∷ pos 0 ∷ pos 1 ∷ negsuc 3 ∷ pos 0 ∷ pos 2 ∷ negsuc 3 ∷ pos 0 ∷ negsuc 0 ∷ negsuc 1 ∷ pos 4 ∷ pos 0 ∷ pos 2 ∷ pos 4 ∷ negsuc 4 ∷ pos 0 ∷ pos 2 ∷ negsuc 3 ∷ pos 5 ∷ pos 0 ∷ negsuc 1 ∷ pos 4 ∷ pos 5 ∷ pos 0 ∷ negsuc 1 ∷ negsuc 3 ∷ negsuc 4 ∷ pos 0 ∷ pos 2 ∷ negsuc 5 ∷ pos 0 ∷ pos 4 ∷ negsuc 5 ∷ pos 0 ∷ negsuc 1 ∷ negsuc 3 ∷ pos 6 ∷ pos 0 ∷ []; given = pos 2 ∷ []; allowance = 14; room = 2 ∷ 2 ∷ 2 ∷ 2 ∷ 2 ∷ 2 ∷ []; number = 0; clauses = 14; left = 2 ∷ 1 ∷ 2 ∷ 2 ∷ 2 ∷ 2 ∷ [] }
+          ∷ [];
       printed =
           record { input = 51 ∷ 32 ∷ 50 ∷ 10 ∷ []; output = 99 ∷ 32 ∷ 109 ∷ 117 ∷ 108 ∷ 32 ∷ 51 ∷ 32 ∷ 50 ∷ 10 ∷ 99 ∷ 32 ∷ 121 ∷ 32 ∷ 49 ∷ 32 ∷ 51 ∷ 32 ∷ 53 ∷ 32 ∷ 54 ∷ 10 ∷ 112 ∷ 32 ∷ 99 ∷ 110 ∷ 102 ∷ 32 ∷ 54 ∷ 32 ∷ 49 ∷ 52 ∷ 10 ∷ 49 ∷ 32 ∷ 50 ∷ 32 ∷ 45 ∷ 51 ∷ 32 ∷ 48 ∷ 10 ∷ 49 ∷ 32 ∷ 45 ∷ 50 ∷ 32 ∷ 51 ∷ 32 ∷ 48 ∷ 10 ∷ 45 ∷ 49 ∷ 32 ∷ 50 ∷ 32 ∷ 51 ∷ 32 ∷ 48 ∷ 10 ∷ 45 ∷ 49 ∷ 32 ∷ 45 ∷ 50 ∷ 32 ∷ 45 ∷ 51 ∷ 32 ∷ 48 ∷ 10 ∷ 49 ∷ 32 ∷ 45 ∷ 52 ∷ 32 ∷ 48 ∷ 10 ∷ 50 ∷ 32 ∷ 45 ∷ 52 ∷ 32 ∷ 48 ∷ 10 ∷ 45 ∷ 49 ∷ 32 ∷ 45 ∷ 50 ∷ 32 ∷ 52 ∷ 32 ∷ 48 ∷ 10 ∷ 50 ∷ 32 ∷ 52 ∷ 32 ∷ 45 ∷ 53 ∷ 32 ∷ 48 ∷ 10 ∷ 50 ∷ 32 ∷ 45 ∷ 52 ∷ 32 ∷ 53 ∷ 32 ∷ 48 ∷ 10 ∷ 45 ∷ 50 ∷ 32 ∷ 52 ∷ 32 ∷ 53 ∷ 32 ∷ 48 ∷ 10 ∷ 45 ∷ 50 ∷ 32 ∷ 45 ∷ 52 ∷ 32 ∷ 45 ∷ 53 ∷ 32 ∷ 48 ∷ 10 ∷ 50 ∷ 32 ∷ 45 ∷ 54 ∷ 32 ∷ 48 ∷ 10 ∷ 52 ∷ 32 ∷ 45 ∷ 54 ∷ 32 ∷ 48 ∷ 10 ∷ 45 ∷ 50 ∷ 32 ∷ 45 ∷ 52 ∷ 32 ∷ 54 ∷ 32 ∷ 48 ∷ 10 ∷ [] }
           ∷ record { input = 48 ∷ 48 ∷ 48 ∷ 48 ∷ 51 ∷ 32 ∷ 48 ∷ 50 ∷ 10 ∷ []; output = 99 ∷ 32 ∷ 109 ∷ 117 ∷ 108 ∷ 32 ∷ 51 ∷ 32 ∷ 50 ∷ 10 ∷ 99 ∷ 32 ∷ 121 ∷ 32 ∷ 49 ∷ 32 ∷ 51 ∷ 32 ∷ 53 ∷ 32 ∷ 54 ∷ 10 ∷ 112 ∷ 32 ∷ 99 ∷ 110 ∷ 102 ∷ 32 ∷ 54 ∷ 32 ∷ 49 ∷ 52 ∷ 10 ∷ 49 ∷ 32 ∷ 50 ∷ 32 ∷ 45 ∷ 51 ∷ 32 ∷ 48 ∷ 10 ∷ 49 ∷ 32 ∷ 45 ∷ 50 ∷ 32 ∷ 51 ∷ 32 ∷ 48 ∷ 10 ∷ 45 ∷ 49 ∷ 32 ∷ 50 ∷ 32 ∷ 51 ∷ 32 ∷ 48 ∷ 10 ∷ 45 ∷ 49 ∷ 32 ∷ 45 ∷ 50 ∷ 32 ∷ 45 ∷ 51 ∷ 32 ∷ 48 ∷ 10 ∷ 49 ∷ 32 ∷ 45 ∷ 52 ∷ 32 ∷ 48 ∷ 10 ∷ 50 ∷ 32 ∷ 45 ∷ 52 ∷ 32 ∷ 48 ∷ 10 ∷ 45 ∷ 49 ∷ 32 ∷ 45 ∷ 50 ∷ 32 ∷ 52 ∷ 32 ∷ 48 ∷ 10 ∷ 50 ∷ 32 ∷ 52 ∷ 32 ∷ 45 ∷ 53 ∷ 32 ∷ 48 ∷ 10 ∷ 50 ∷ 32 ∷ 45 ∷ 52 ∷ 32 ∷ 53 ∷ 32 ∷ 48 ∷ 10 ∷ 45 ∷ 50 ∷ 32 ∷ 52 ∷ 32 ∷ 53 ∷ 32 ∷ 48 ∷ 10 ∷ 45 ∷ 50 ∷ 32 ∷ 45 ∷ 52 ∷ 32 ∷ 45 ∷ 53 ∷ 32 ∷ 48 ∷ 10 ∷ 50 ∷ 32 ∷ 45 ∷ 54 ∷ 32 ∷ 48 ∷ 10 ∷ 52 ∷ 32 ∷ 45 ∷ 54 ∷ 32 ∷ 48 ∷ 10 ∷ 45 ∷ 50 ∷ 32 ∷ 45 ∷ 52 ∷ 32 ∷ 54 ∷ 32 ∷ 48 ∷ 10 ∷ [] }

@@ -35,5 +35,6 @@ bench =
       write-rooms = [];
       given = [];
       given-rooms = [];
+      propagated = [];
       printed = [];
     }

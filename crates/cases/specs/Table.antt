@@ -1,5 +1,5 @@
 -- A table of worked cases: what goes into each call, and what comes out of it. Rooms are given by their lengths; every entry
--- of a room is 7 before the call.
+-- of a room is 7 before the call. Only a pass is given its value room as it is.
 use Prim.Native.Nat.{ℕ}
 use mathlib.Core.List.{List}
 use lib.IntN.{ℤ}
@@ -65,6 +65,17 @@ pub record GivenRooms : Type 0 where
   pub first : ℕ
   pub call : WriteRooms
 
+-- one pass over words: the literals that hold, the allowance and the value room as it comes; the refusal's number, or 0, the clauses read, and the room
+-- at exit
+pub record Pass : Type 0 where
+  pub words : List ℤ
+  pub given : List ℤ
+  pub allowance : ℕ
+  pub room : List ℕ
+  pub number : ℕ
+  pub clauses : ℕ
+  pub left : List ℕ
+
 -- what the program prints for an input
 pub record Printed : Type 0 where
   pub input : List ℕ
@@ -79,4 +90,5 @@ pub record Table : Type 0 where
   pub write-rooms : List WriteRooms
   pub given : List Given
   pub given-rooms : List GivenRooms
+  pub propagated : List Pass
   pub printed : List Printed

@@ -2,13 +2,14 @@
 --
 -- A step is a list of clauses that open one variable n: each clause is literals below n and then one of n (`Shapes`), and together they
 -- hold exactly when n has the value that a function of the variables below n gives (`step`). Steps in a row extend every assignment of
--- the variables below the first to exactly one below the last that satisfies all clauses (`extends-append`, `extends-nil`).
+-- the variables below the first to exactly one below the last that satisfies all clauses (`extends-append`, `extends-nil`). The steps
+-- themselves are kept (`steps`), for whoever asks more of them: unit propagation goes step by step (crates/propagate).
 -- Nothing here asks which function it is, or whether two literals of a clause name one variable.
 use Prim.Native.Nat.{ℕ, suc, _≤_, _<_, max}
 use mathlib.Core.Path.{_≡_, refl, sym, ap, ap₂, _∙_, subst}
 use mathlib.Core.Logic.{_⊎_, inl, inr, ⊎-elim}
 use mathlib.Core.Bool.{Bool, true, false, not, _&&_, _||_, Bool·beq, false≢true, and-assoc}
-use mathlib.Core.List.{List, [], _∷_, _++_}
+use mathlib.Core.List.{List, [], _∷_, _++_, append-nil, append-assoc}
 use native.Mathlib.Decide.{ℕ-discrete}
 use native.Mathlib.Nat.{le-refl, le-suc, eq-or-lt-of-le, le-of-suc-le-suc, max-eq-left, max-eq-right}
 use native.Mathlib.Omega.{arith}
@@ -26,7 +27,7 @@ pub and-right : (a b : Bool) → a && b ≡ true → b ≡ true
 and-right true b e = e
 and-right false b e = absurd (false≢true e)
 
-and-both : (a b : Bool) → a ≡ true → b ≡ true → a && b ≡ true
+pub and-both : (a b : Bool) → a ≡ true → b ≡ true → a && b ≡ true
 and-both true b e f = f
 and-both false b e f = e
 
@@ -42,6 +43,15 @@ satisfies-right α cs ds e = and-right (satisfies α cs) (satisfies α ds) (sym 
 
 satisfies-both : (α : Assignment) (cs ds : List Clause) → satisfies α cs ≡ true → satisfies α ds ≡ true → satisfies α (cs ++ ds) ≡ true
 satisfies-both α cs ds e f = satisfies-append α cs ds ∙ and-both (satisfies α cs) (satisfies α ds) e f
+
+-- lists of clauses in a row
+abbrev pub joined : List (List Clause) → List Clause
+joined [] = []
+joined (cs ∷ css) = cs ++ joined css
+
+joined-append : (css dss : List (List Clause)) → joined (css ++ dss) ≡ joined css ++ joined dss
+joined-append [] dss = refl
+joined-append (cs ∷ css) dss = ap (λ (ds : List Clause). cs ++ ds) (joined-append css dss) ∙ sym (append-assoc cs (joined css) (joined dss))
 
 -- ---- the first number past n and past every variable that is named
 
@@ -63,10 +73,10 @@ put-by : {v n : ℕ} → Dec (v ≡ n) → Bool → Bool → Bool
 put-by (yes e) b c = b
 put-by (no e) b c = c
 
-put : ℕ → Bool → Assignment → Assignment
+pub put : ℕ → Bool → Assignment → Assignment
 put n b α v = put-by (ℕ-discrete v n) b (α v)
 
-put-same : (n : ℕ) (b : Bool) (α : Assignment) → put n b α n ≡ b
+pub put-same : (n : ℕ) (b : Bool) (α : Assignment) → put n b α n ≡ b
 unfolding put put-by
 put-same n b α = go (ℕ-discrete n n)
   where
@@ -74,7 +84,7 @@ put-same n b α = go (ℕ-discrete n n)
     go (yes e) = refl
     go (no e) = absurd (e refl)
 
-put-other : (n : ℕ) (b : Bool) (α : Assignment) (v : ℕ) → (v ≡ n → ⊥) → α v ≡ put n b α v
+pub put-other : (n : ℕ) (b : Bool) (α : Assignment) (v : ℕ) → (v ≡ n → ⊥) → α v ≡ put n b α v
 unfolding put put-by
 put-other n b α v h = go (ℕ-discrete v n)
   where
@@ -82,7 +92,7 @@ put-other n b α v h = go (ℕ-discrete v n)
     go (yes e) = absurd (h e)
     go (no e) = refl
 
-not-itself : (b : Bool) → not b ≡ b → ⊥
+pub not-itself : (b : Bool) → not b ≡ b → ⊥
 not-itself true e = false≢true e
 not-itself false e = false≢true (sym e)
 
@@ -167,14 +177,32 @@ module _ (Used : ℕ → Type 0) where
   Shapes n [] = Unit {0}
   Shapes n (c ∷ cs) = Shape n c × Shapes n cs
 
+  -- a step: together the clauses say that the variable n has the value of a function of the variables below n
+  pub record Step (n : ℕ) (cs : List Clause) : Type 0 where
+    pub used : Used n
+    pub function : Assignment → Bool
+    pub low : (α β : Assignment) → Agree n α β → function α ≡ function β
+    pub shapes : Shapes n cs
+    pub forced : (α : Assignment) → satisfies α cs ≡ Bool·beq (α n) (function α)
+
+  -- steps in a row, which open the variables from a up to b
+  abbrev pub Steps : ℕ → ℕ → List (List Clause) → Type 0
+  Steps a b [] = a ≡ b
+  Steps a b (cs ∷ css) = Step a cs × Steps (suc a) b css
+
+  steps-append : (a b c : ℕ) (css dss : List (List Clause)) → Steps a b css → Steps b c dss → Steps a c (css ++ dss)
+  steps-append a b c [] dss e t = subst (λ (n : ℕ). Steps n c dss) (sym e) t
+  steps-append a b c (cs ∷ css) dss s t = (s .0, steps-append (suc a) b c css dss (s .1) t)
+
   -- every assignment below a extends to exactly one below b that satisfies cs; cs names variables below b only, and the highest of them
-  -- where b is above a
+  -- where b is above a; and cs are steps
   pub record Extends (a b : ℕ) (cs : List Clause) : Type 0 where
     pub grows : a ≤ b
     pub exists : (α : Assignment) → (β : Assignment) × Agree a α β × (satisfies β cs ≡ true)
     pub unique : (α β : Assignment) → Agree a α β → satisfies α cs ≡ true → satisfies β cs ≡ true → Agree b α β
     pub names : Names b cs
     pub opens : past a cs ≡ b
+    pub steps : (css : List (List Clause)) × (joined css ≡ cs) × Steps a b css
 
   agree-less : {a b : ℕ} {α β : Assignment} → a ≤ b → Agree b α β → Agree a α β
   agree-less l h v p q = h v p (omega arith)
@@ -189,6 +217,7 @@ module _ (Used : ℕ → Type 0) where
     unique = λ α β h s t. h;
     names = tt;
     opens = refl;
+    steps = ([], refl, refl);
   }
 
   pub extends-append : {a b c : ℕ} {cs ds : List Clause} → Extends a b cs → Extends b c ds → Extends a c (cs ++ ds)
@@ -202,9 +231,13 @@ module _ (Used : ℕ → Type 0) where
         q .unique α β (p .unique α β h (satisfies-left α cs ds s) (satisfies-left β cs ds t)) (satisfies-right α cs ds s) (satisfies-right β cs ds t);
     names = names-append c cs ds (names-more cs (q .grows) (p .names)) (q .names);
     opens = past-append a cs ds ∙ ap (λ (n : ℕ). past n ds) (p .opens) ∙ q .opens;
+    steps =
+        let s = p .steps in
+        let t = q .steps in
+        (s .0 ++ t .0, joined-append (s .0) (t .0) ∙ ap₂ _++_ (s .1) (t .1), steps-append a b c (s .0) (t .0) (s .2) (t .2));
   }
 
-  shape-literals : {n : ℕ} (c : Clause) → Used n → Shape n c → Literals (suc n) c
+  pub shape-literals : {n : ℕ} (c : Clause) → Used n → Shape n c → Literals (suc n) c
   shape-literals [] u s = tt
   shape-literals (l ∷ []) u s = ((subst Used (sym s) u, omega arith), tt)
   shape-literals (l ∷ k ∷ c) u s = ((s .0 .0, omega arith), shape-literals (k ∷ c) u (s .1))
@@ -238,6 +271,7 @@ module _ (Used : ℕ → Type 0) where
         ⊎-elim (λ (e : v ≡ n). subst (λ (u : ℕ). α u ≡ β u) (sym e) (says α s ∙ low α β h ∙ sym (says β t))) (λ l. h v p l) (eq-or-lt-of-le (le-of-suc-le-suc q));
     names = shapes-names cs u shapes;
     opens = past-shapes cs u some shapes;
+    steps = (cs ∷ [], append-nil cs, (record { used = u; function = f; low = low; shapes = shapes; forced = forced }, refl));
   }
     where
       says : (α : Assignment) → satisfies α cs ≡ true → α n ≡ f α
@@ -256,11 +290,11 @@ module _ (Used : ℕ → Type 0) where
 
 -- ---- the variables that stand in clauses
 
-or-true : (a b : Bool) → a || b ≡ true → (a ≡ true) ⊎ (b ≡ true)
+pub or-true : (a b : Bool) → a || b ≡ true → (a ≡ true) ⊎ (b ≡ true)
 or-true true b e = inl e
 or-true false b e = inr e
 
-or-false : (a b : Bool) → a || b ≡ false → (a ≡ false) × (b ≡ false)
+pub or-false : (a b : Bool) → a || b ≡ false → (a ≡ false) × (b ≡ false)
 or-false true b e = absurd (false≢true (sym e))
 or-false false b e = (refl, e)
 

@@ -1,5 +1,6 @@
 -- The words of a clause room and their DIMACS meaning.
 use Prim.Native.Nat.{ℕ, zero, suc, _<_, max}
+use mathlib.Core.Path.{_≡_}
 use mathlib.Core.Bool.{Bool, true, false, _||_}
 use mathlib.Core.List.{List, [], _∷_, _++_, map}
 use lib.Dec.{eqb}
@@ -54,6 +55,11 @@ named w = natAbs w
 abbrev pub names : ℕ → List ℤ → Bool
 names v [] = false
 names v (w ∷ ws) = eqb (named w) v || names v ws
+
+-- literals of variables from 1 to n - 1, each of another variable
+abbrev pub Distinct-below : ℕ → List ℤ → Type 0
+Distinct-below n [] = Unit {0}
+Distinct-below n (l ∷ ls) = (0 < named l) × (named l < n) × (names (named l) ls ≡ false) × Distinct-below n ls
 
 -- the highest variable that words name, and at least h
 abbrev pub highest-named : ℕ → List ℤ → ℕ

@@ -5,7 +5,7 @@ ghost use Prim.Native.Nat.{_+_, _≤_, _<_};
 ghost use lib.ListN.{length};
 ghost use Rattle.wording.specs.Decimal.{decimal, signed-decimal};
 ghost use Rattle.dimacs.specs.Put.{Put};
-use gates::named;
+use cnf::named;
 
 pub(crate) fn put_byte(out: &mut [u8], at: usize, b: u8) -> usize
     requires { ⌜ at < length (now out) ⌝ }

@@ -8,9 +8,8 @@ use borrow.Author.Tests.{ltb-true}
 use lib.IntN.{ℤ, pos, negsuc}
 use lib.Signed.{ltZ}
 use Rattle.cnf.specs.Clause.{negation}
-use Rattle.cnf.specs.Words.{named, literal-of-word}
+use Rattle.cnf.specs.Words.{named, literal-of-word, Distinct-below}
 use Rattle.product.specs.Bit.{Bit, unfixed, given}
-use Rattle.product.proofs.Given.{Fit}
 use Rattle.gates.specs.Code.{literal-of, bits-of, code-of-word}
 use Rattle.gates.proofs.Codes.{negated-even, literal-negated, literal-new, bit-literal}
 
@@ -31,7 +30,7 @@ code-large (pos v) h = omega arith
 code-large (negsuc v) h = omega arith
 
 -- the codes of given literals are their bits
-pub bits-given : (first : ℕ) (x : List ℤ) → Fit first x → bits-of (map code-of-word x) ≡ given x
+pub bits-given : (first : ℕ) (x : List ℤ) → Distinct-below first x → bits-of (map code-of-word x) ≡ given x
 bits-given first [] i = refl
 bits-given first (l ∷ ls) i =
     ap₂ (λ (b : Bit) (bs : List Bit). b ∷ bs) (bit-literal (code-of-word l) (code-large l (i .0)) ∙ ap unfixed (literal-given l)) (bits-given first ls (i .3))

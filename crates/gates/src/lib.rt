@@ -4,7 +4,7 @@ ghost use mathlib.Core.Path.{_≡_};
 ghost use Prim.Native.Nat.{_+_, _≤_};
 ghost use lib.ListN.{length};
 ghost use lib.Seq.{sets};
-ghost use Rattle.cnf.specs.Words.{word, words, named};
+ghost use Rattle.cnf.specs.Words.{word, words};
 ghost use Rattle.gates.specs.Code.{literal-of, negated-code, flipped-code, code-words};
 ghost use Rattle.gates.specs.Gate.{gate-clauses, column-clauses, taken, after};
 
@@ -30,16 +30,6 @@ pub fn word(b: u32) -> i32
 {
     let v = (b / 2) as i32;
     if b % 2 == 0 { v } else { -v }
-}
-
-// The variable that a literal names; the least i32 names 2^31.
-pub fn named(l: i32) -> u64
-    ensures { λ r. ⌜ (r ≡ named l) × (r ≤ 2147483648) ⌝ }
-{
-    if l < 0 {
-        return (0 - (l as i64)) as u64;
-    }
-    l as u64
 }
 
 // ---- gates

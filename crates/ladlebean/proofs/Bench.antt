@@ -9,6 +9,7 @@ use Rattle.split.proofs.Cases as split
 use Rattle.ladlebean.proofs.PlanCases as plan
 use Rattle.recipe.proofs.Cases as recipe
 use Rattle.product.proofs.Cases as product
+use Rattle.propagate.proofs.Cases as propagate
 use Rattle.wording.proofs.Cases as dimacs
 
 -- every row of a table is what the definitions give
@@ -18,6 +19,7 @@ pub record Right (table : Table) : Type 0 where
   pub plan-rooms : plan.RoomsRight split-of (table .plan-rooms)
   pub checked : recipe.Right (table .checked)
   pub written : product.Right table
+  pub propagated : propagate.Right (table .propagated)
   pub printed : dimacs.Right split-of (table .printed)
 
 pub bench-right : Right bench
@@ -29,6 +31,7 @@ bench-right =
       plan-rooms = refl;
       checked = recipe.bench-right;
       written = product.bench-right;
+      propagated = refl;
       printed = refl;
     }
 
@@ -40,5 +43,6 @@ agreed-right =
       plan-rooms = plan.agreed-rooms-right;
       checked = recipe.agreed-right;
       written = product.agreed-right;
+      propagated = propagate.agreed-right;
       printed = dimacs.agreed-right;
     }

@@ -1,4 +1,4 @@
--- The three demands, of the calls `plan`, `check` and `write`.
+-- The three demands, of the calls `plan`, `check` and `write`, and what is asked of one pass over words.
 --
 -- A call's contract fixes its answer and every room at exit as functions of what came in: `planned c work recipe`, `checked c recipe` and
 -- `written c w x first recipe bits clauses`, document 01 as definitions. So what is said here of these functions is said of the calls, and two results that
@@ -27,9 +27,18 @@
 -- Demand 3. For c from 1 to 65,535 with L bits in its odd part, the planned recipe has at most L div 2 lines, and never more than the nonzero digits of
 -- the odd part's non-adjacent form less one (`few-lines`), of which every positive number has exactly one (`one-form`). At width w its clauses, read
 -- off the room, are at most 14 * (L + w) a line (`few-clauses`).
+--
+-- A second engine that believes only the clauses (document 02 i): `propagated words given allowance room` is the answer and the room at exit of a pass, and
+-- two outcomes that meet its contract are one. It refuses by 26 exactly where the room has a value or the literals are not of distinct variables of the room
+-- (`pass-started`), and in success its count is that of the clauses which the words are (`pass-counted`). What it says of any words follows from the clauses
+-- and the given literals: every assignment that satisfies both has each value that a success leaves (`pass-forced`), and where it answers 22 no assignment
+-- satisfies both (`conflict-real`). A refusal leaves the room as it came (`pass-refused`). On the words of an accepted recipe as they stand in the room, with
+-- allowance for every clause, a room for every variable and for every bit of x its literal or its negation given, it succeeds, reads every clause, sets
+-- every variable opened, and y read off the values is c times the number given (`second-engine`). Of the clauses that is proved from the laws of a step
+-- that opens a variable alone (crates/cnf, `Extends`), whichever columns make the steps.
 use Prim.Native.Nat.{ℕ, suc, _+_, _-_, _*_, _/_, _%_, _^_, _≤_, _<_}
-use mathlib.Core.Path.{_≡_, refl, _∙_}
-use mathlib.Core.Bool.{Bool, false}
+use mathlib.Core.Path.{_≡_, refl, ap, _∙_}
+use mathlib.Core.Bool.{Bool, true, false}
 use mathlib.Core.List.{List}
 use native.Mathlib.Omega.{arith}
 use lib.IntN.{ℤ}
@@ -57,7 +66,7 @@ use Rattle.plan.proofs.Accepts as plan-laws
 use Rattle.plan.proofs.Accepts.{planned-accepted, planned-claims, planned-lines-half, planned-lines-form, planned-bits}
 use Rattle.product.specs.Product.{Product, product-of, clause-words}
 use Rattle.product.specs.Bit.{numbered}
-use Rattle.product.specs.Write.{not-literals, most-next, written, write-by, write-answer, plain-answer, written-number, next-free, y-length}
+use Rattle.product.specs.Write.{not-literals, most-next, written, write-by, write-answer, plain-answer, written-number, clauses-written, next-free, y-length}
 use Rattle.product.specs.Demand.{Demand-2, Plain-demand-2, Result, words-at-exit, entries-at-exit, Opened, Renamed}
 use Rattle.product.specs.declared.Written.{Written}
 use Rattle.product.specs.declared.Written.the-variants as write-answers
@@ -65,7 +74,16 @@ use Rattle.product.proofs.Given.{literals-of}
 use Rattle.product.proofs.Demands.{demand-2, not-refused, opened, plain-demand-2, renamed, demand-3-clauses}
 use Rattle.product.proofs.Plain.{plain-order}
 use Rattle.product.proofs.Success.{answer-of}
-use Rattle.cnf.specs.Words.{clauses-of}
+use Rattle.cnf.specs.Clause.{Assignment}
+use Rattle.cnf.specs.Words.{clauses-of, satisfies-words, names, Distinct-below}
+use Rattle.propagate.specs.Pass.{all-unknown, propagated, propagated-number}
+use Rattle.propagate.specs.Promise.{Given-true, Agrees}
+use Rattle.propagate.specs.declared.Propagated.{Propagated}
+use Rattle.propagate.specs.declared.Propagated.the-variants as pass-answers
+use Rattle.propagate.proofs.Exact.{refused-room, refused-26, given-right}
+use Rattle.propagate.proofs.Sound.{Sound, sound, count-read}
+use Rattle.ladlebean.specs.Engine.{Second-engine}
+use Rattle.ladlebean.proofs.Engine as engine
 
 -- ---- demand 1
 
@@ -117,6 +135,13 @@ module _ (c w : ℕ) (x : List ℤ) (first : ℕ) (recipe : List ℕ) (bits clau
   -- the new variables are those from first to next - 1
   pub new-variables : Opened x first (next-free answer) (words-at-exit answer clauses′)
   new-variables = opened c w x first recipe bits clauses answer bits′ clauses′ meets succeeds
+
+  -- one pass over the words, with every bit of x given
+  pub second-engine : (gs : List ℤ) → Distinct-below first gs → ((v : ℕ) → names v x ≡ true → names v gs ≡ true)
+      → (allowance : ℕ) → clauses-written answer ≤ allowance → (room : List ℕ) → all-unknown room ≡ true → next-free answer ≤ suc (length room)
+      → Second-engine c x first (next-free answer) (clauses-written answer) (words-at-exit answer clauses′) (entries-at-exit answer bits′) gs room
+      (propagated (words-at-exit answer clauses′) gs allowance room)
+  second-engine = engine.second-engine c w x first recipe bits clauses answer bits′ clauses′ meets succeeds
 
 -- document 01's call is the case where x is the variables 1 to w and the first free number is w + 1
 module _ (c w : ℕ) (recipe : List ℕ) (bits clauses : List ℤ) (answer : Written) (bits′ clauses′ : List ℤ)
@@ -170,3 +195,32 @@ module _ (c : ℕ) (least : 1 ≤ c) (most : c ≤ 65535) where
 
 pub one-form : (n : ℕ) → SignedForm n (signed-form n) × ((ds : List Digit) → SignedForm n ds → ds ≡ signed-form n)
 one-form n = (form-is n, form-only n)
+
+-- ---- one pass over any words
+
+module _ (ws gs : List ℤ) (allowance : ℕ) (room : List ℕ) where
+  abbrev answer-of-pass : Propagated
+  answer-of-pass = propagated ws gs allowance room .answer
+
+  abbrev values : List ℕ
+  values = propagated ws gs allowance room .room
+
+  pub pass-refused : (x : Refusal) → answer-of-pass ≡ pass-answers.Refused x → values ≡ room
+  pass-refused = refused-room ws gs allowance room
+
+  pub pass-started : ((propagated-number answer-of-pass ≡ 26 → ⊥) → (all-unknown room ≡ true) × Distinct-below (suc (length room)) gs)
+      × ((all-unknown room ≡ true) × Distinct-below (suc (length room)) gs → propagated-number answer-of-pass ≡ 26 → ⊥)
+  pass-started = (given-right ws gs allowance room, λ h e. refused-26 ws gs allowance room e (h .0) (h .1))
+
+  pub pass-counted : (n : ℕ) → answer-of-pass ≡ pass-answers.Read n → n ≡ length (clauses-of ws)
+  pass-counted = count-read ws gs allowance room
+
+  -- where it does not refuse by 26, it speaks of every assignment in which the given literals and the clauses hold
+  speaks : (propagated-number answer-of-pass ≡ 26 → ⊥) → (α : Assignment) → Given-true α gs → satisfies-words α ws ≡ true → Sound α (propagated ws gs allowance room)
+  speaks f = sound ws gs allowance room (given-right ws gs allowance room f .0)
+
+  pub pass-forced : (n : ℕ) → answer-of-pass ≡ pass-answers.Read n → (α : Assignment) → Given-true α gs → satisfies-words α ws ≡ true → Agrees α values
+  pass-forced n e α t s = speaks (λ f. omega (arith, ap propagated-number e, f)) α t s .agrees
+
+  pub conflict-real : propagated-number answer-of-pass ≡ 22 → (α : Assignment) → Given-true α gs → satisfies-words α ws ≡ true → ⊥
+  conflict-real e α t s = speaks (λ f. omega (arith, e, f)) α t s .no-conflict e

@@ -3,3 +3,4 @@ pub mod PlanCases
 pub mod Bench
 pub mod Demands
 pub mod Calls
+pub mod Engine

@@ -44,8 +44,14 @@ use Rattle.gates.proofs.word.Kinds as WordKinds
 use Rattle.gates.proofs.word.Reads as Word
 use Rattle.gates.proofs.write_column.Kinds as WriteColumnKinds
 use Rattle.gates.proofs.write_column.Reads as WriteColumn
-use Rattle.gates.proofs.named.Kinds as NamedKinds
-use Rattle.gates.proofs.named.Reads as Named
+use Rattle.cnf.proofs.named.Kinds as NamedKinds
+use Rattle.cnf.proofs.named.Reads as Named
+use Rattle.propagate.proofs.propagate.Kinds as PropagateKinds
+use Rattle.propagate.proofs.propagate.Reads as Propagate
+use Rattle.propagate.proofs.Propagated.number.Kinds as PropagatedNumberKinds
+use Rattle.propagate.proofs.Propagated.number.Reads as PropagatedNumber
+use Rattle.propagate.proofs.Propagated.clauses.Kinds as PropagatedClausesKinds
+use Rattle.propagate.proofs.Propagated.clauses.Reads as PropagatedClauses
 use Rattle.write.proofs.write_plain.Kinds as WritePlainKinds
 use Rattle.write.proofs.write_plain.Reads as WritePlain
 use Rattle.write.proofs.write.Kinds as WriteKinds
@@ -60,6 +66,8 @@ use Rattle.ladlebean.proofs.ladlebean_write.Kinds as ArchiveWriteKinds
 use Rattle.ladlebean.proofs.ladlebean_write.Reads as ArchiveWrite
 use Rattle.ladlebean.proofs.ladlebean_write_plain.Kinds as ArchiveWritePlainKinds
 use Rattle.ladlebean.proofs.ladlebean_write_plain.Reads as ArchiveWritePlain
+use Rattle.ladlebean.proofs.ladlebean_propagate.Kinds as ArchivePropagateKinds
+use Rattle.ladlebean.proofs.ladlebean_propagate.Reads as ArchivePropagate
 
 -- an outcome is an answer and the parameters at exit; `Same` compares two of them
 abbrev Coincide : {n : ℕ} (ps : List (PK n)) (r : RK n) → Out n ps r
@@ -148,3 +156,15 @@ archive-write-once κs a x y e f p q = (p .0 ∙ sym (q .0), p .1 .0 ∙ sym (q 
 
 pub archive-write-plain-once : Coincide ArchiveWritePlainKinds.ps ArchiveWritePlainKinds.r ArchiveWritePlain.Learnt (λ κs x y e f. (x ≡ y) × (now (e .1 .1 .1 .0) ≡ now (f .1 .1 .1 .0)) × (now (e .1 .1 .1 .1 .0) ≡ now (f .1 .1 .1 .1 .0)) × (now (e .1 .1 .1 .1 .1 .0) ≡ now (f .1 .1 .1 .1 .1 .0)))
 archive-write-plain-once κs a x y e f p q = (p .0 ∙ sym (q .0), p .1 .0 ∙ sym (q .1 .0), p .1 .1 .0 ∙ sym (q .1 .1 .0), p .1 .1 .1 ∙ sym (q .1 .1 .1))
+
+pub propagated-number-once : Answers PropagatedNumberKinds.ps PropagatedNumberKinds.r PropagatedNumber.Learnt
+propagated-number-once κs a x y e f p q = p .0 ∙ sym (q .0)
+
+pub propagated-clauses-once : Answers PropagatedClausesKinds.ps PropagatedClausesKinds.r PropagatedClauses.Learnt
+propagated-clauses-once κs a x y e f p q = p ∙ sym q
+
+pub propagate-once : Coincide PropagateKinds.ps PropagateKinds.r Propagate.Learnt (λ κs x y e f. (x ≡ y) × (now (e .1 .1 .1 .0) ≡ now (f .1 .1 .1 .0)))
+propagate-once κs a x y e f p q = (p .0 ∙ sym (q .0), p .1 ∙ sym (q .1))
+
+pub archive-propagate-once : Coincide ArchivePropagateKinds.ps ArchivePropagateKinds.r ArchivePropagate.Learnt (λ κs x y e f. (x ≡ y) × (now (e .1 .1 .1 .0) ≡ now (f .1 .1 .1 .0)) × (now (e .1 .1 .1 .1 .0) ≡ now (f .1 .1 .1 .1 .0)))
+archive-propagate-once κs a x y e f p q = (p .0 ∙ sym (q .0), p .1 .0 ∙ sym (q .1 .0), p .1 .1 ∙ sym (q .1 .1))

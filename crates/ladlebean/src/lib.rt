@@ -1,4 +1,4 @@
-// The archive for C: plan, check and write over numbers and slices. A slice passes as a pointer and a length.
+// The archive for C: plan, check, write and the second engine over numbers and slices. A slice passes as a pointer and a length.
 
 ghost use mathlib.Core.Path.{_≡_};
 ghost use Prim.Native.Nat.{_≤_};
@@ -6,6 +6,7 @@ ghost use lib.ListN.{length};
 ghost use Rattle.line.specs.Room.{over};
 ghost use Rattle.recipe.specs.Check.{checked, checked-number};
 ghost use Rattle.product.specs.Write.{written-number};
+ghost use Rattle.propagate.specs.Pass.{propagated, propagated-number, clauses-read};
 ghost use Rattle.ladlebean.specs.Archive.{planning, counts-told, writing, plain-writing};
 use product::Written;
 
@@ -87,6 +88,24 @@ pub extern "C" fn ladlebean_write_plain(
         return SHORT_ANSWERS;
     }
     tell(write::write_plain(c, w, recipe, bits, clauses), answers)
+}
+
+// The second engine: one pass of unit propagation over words. 0, or the refusal's number; `clauses` is the number of clauses read.
+#[no_mangle]
+pub extern "C" fn ladlebean_propagate(
+    words: &[i32],
+    given: &[i32],
+    allowance: u64,
+    values: &mut [u8],
+    clauses: &mut u64,
+) -> u64
+    ensures { λ r. ⌜ r ≡ propagated-number (propagated (now (words .entry)) (now (given .entry)) allowance (now (values .entry)) .answer) ⌝ }
+    ensures { λ r. ⌜ now (values .exit) ≡ propagated (now (words .entry)) (now (given .entry)) allowance (now (values .entry)) .room ⌝ }
+    ensures { λ r. ⌜ now (clauses .exit) ≡ clauses-read (propagated (now (words .entry)) (now (given .entry)) allowance (now (values .entry)) .answer) ⌝ }
+{
+    let propagated = propagate::propagate(words, given, allowance, values);
+    *clauses = propagated.clauses();
+    propagated.number()
 }
 
 // The number of what was written, and its four counts at the front of the answers.

@@ -1,3 +1,4 @@
 pub mod Number
 pub mod RoundTrip
 pub mod Value
+pub mod Refusals

@@ -166,10 +166,14 @@ pub enum Refusal {
     Input,
     Literals,
     Variables,
+    Allowance,
+    Words,
+    Conflict,
+    Given,
 }
 
 impl Refusal {
-    // Document 01's number.
+    // The documents' number.
     pub fn number(self) -> u64
         ensures { λ r. ⌜ (r ≡ refusal-number self) × (r < 100) ⌝ }
     {
@@ -189,6 +193,10 @@ impl Refusal {
             Refusal::Input => 13,
             Refusal::Literals => 14,
             Refusal::Variables => 15,
+            Refusal::Allowance => 20,
+            Refusal::Words => 21,
+            Refusal::Conflict => 22,
+            Refusal::Given => 26,
         }
     }
 }

@@ -15,14 +15,14 @@ use Rattle.line.specs.declared.Line.{Line}
 use Rattle.line.proofs.Number.{odd-part-odd, odd-part-whole}
 use Rattle.recipe.specs.Accepted.{Makes}
 use Rattle.recipe.specs.Check.{line-at, coefficient-at}
-use Rattle.cnf.specs.Words.{From-1, names}
+use Rattle.cnf.specs.Words.{From-1, names, Distinct-below}
 use Rattle.cnf.proofs.Extend.{Fresh, Names}
 use Rattle.product.specs.Bit.{given}
 use Rattle.product.specs.Product.{last, lines-from, lines-of, product, product-of}
 use Rattle.product.specs.Write.{y-length}
 use Rattle.product.specs.Demand.{Lines-right, lines-product, Bits-below}
 use Rattle.product.proofs.BitLengths.{bit-length-of-y}
-use Rattle.product.proofs.Given.{Fit, length-given, given-below, given-named}
+use Rattle.product.proofs.Given.{length-given, given-below, given-named}
 use Rattle.product.proofs.ProductMeans.{length-y, Product-multiplies, product-multiplies}
 
 -- ---- the coefficients of the operands 0 to i
@@ -81,18 +81,18 @@ module _ (c : ℕ) (x : List ℤ) (first : ℕ) (recipe : List ℕ) (g : Makes (
   constant-is : lines-product (lines-of recipe) * 2 ^ twos c ≡ c
   constant-is = ap (λ (d : ℕ). d * 2 ^ twos c) (product-is (odd-part c) recipe g) ∙ odd-part-whole c
 
-  -- the product is c times x
-  product-by : (Used : ℕ → Type 0) → Fresh Used first → Bits-below Used first (given x) → Product-multiplies Used c (given x) first (product-of c x first recipe)
+  -- the product is c times x, whichever variables may stand in clauses
+  pub product-by : (Used : ℕ → Type 0) → Fresh Used first → Bits-below Used first (given x) → Product-multiplies Used c (given x) first (product-of c x first recipe)
   unfolding product-of
   product-by Used fresh below =
       subst (λ (k : ℕ). Product-multiplies Used k (given x) first (product (twos c) (lines-of recipe) (given x) first)) constant-is
       (product-multiplies Used (twos c) (lines-of recipe) (given x) first fresh below (lines-right (odd-part c) recipe g))
 
-  pub product-of-multiplies : 0 < first → Fit first x → Product-multiplies From-1 c (given x) first (product-of c x first recipe)
+  pub product-of-multiplies : 0 < first → Distinct-below first x → Product-multiplies From-1 c (given x) first (product-of c x first recipe)
   product-of-multiplies some fit = product-by From-1 (λ v h. omega arith) (given-below first x fit)
 
   -- its clauses name x's variables and new ones
-  pub product-of-names : Fit first x → Names (λ u. (names u x ≡ true) ⊎ (first ≤ u)) (product-of c x first recipe .next) (product-of c x first recipe .clauses)
+  pub product-of-names : Distinct-below first x → Names (λ u. (names u x ≡ true) ⊎ (first ≤ u)) (product-of c x first recipe .next) (product-of c x first recipe .clauses)
   product-of-names fit =
       product-by (λ u. (names u x ≡ true) ⊎ (first ≤ u)) (λ v h. inr h) (given-named (λ u. (names u x ≡ true) ⊎ (first ≤ u)) first x fit (λ u e. inl e)) .extends .names
 

@@ -58,7 +58,7 @@ use Rattle.line.specs.declared.Line.{Line}
 use Rattle.recipe.specs.Check.{line-at, checked}
 use Rattle.recipe.specs.declared.Checked.the-variants.{Accepted}
 use Rattle.recipe.proofs.Accepted.{accepted-right}
-use Rattle.cnf.specs.Words.{From-1, words, clauses-of, names, highest-named}
+use Rattle.cnf.specs.Words.{From-1, words, clauses-of, names, highest-named, Distinct-below}
 use Rattle.cnf.specs.Clause.{clauses-name}
 use Rattle.cnf.proofs.Extend.{named-used, opened-named}
 use Rattle.cnf.proofs.Words.{clauses-of-words}
@@ -69,7 +69,7 @@ use Rattle.product.specs.Write.{written-number, words-used, clauses-writ
 use Rattle.product.specs.Demand.{Lines-right, lines-product, Bits-below, Multiplies, Demand-2, Result, words-at-exit, entries-at-exit, Counted, Opened, Renamed, Plain-demand-2}
 use Rattle.product.specs.declared.Written.{Written}
 use Rattle.product.proofs.Bounds.{few-clauses}
-use Rattle.product.proofs.Given.{Fit, renames, product-as-numbered, counts-as-numbered}
+use Rattle.product.proofs.Given.{renames, product-as-numbered, counts-as-numbered}
 use Rattle.product.proofs.Renamed.{Product-renamed, Counts-same}
 use Rattle.product.proofs.RenamedWords.{words-renamed, entries-renamed}
 use Rattle.product.proofs.Plain as plain-call
@@ -88,7 +88,7 @@ demand-2-inside t lines x n p i g =
 
 -- ---- a recipe that the check accepts
 
-module _ (c : ℕ) (x : List ℤ) (first : ℕ) (recipe : List ℕ) (e : checked c recipe ≡ Accepted) (some : 0 < first) (fit : Fit first x) where
+module _ (c : ℕ) (x : List ℤ) (first : ℕ) (recipe : List ℕ) (e : checked c recipe ≡ Accepted) (some : 0 < first) (fit : Distinct-below first x) where
   multiplies : Product-multiplies From-1 c (given x) first (product-of c x first recipe)
   multiplies = product-of-multiplies c x first recipe (accepted-right c recipe e .makes) some fit
 
@@ -101,7 +101,7 @@ module _ (c : ℕ) (x : List ℤ) (first : ℕ) (recipe : List ℕ) (e : checked
 
 pub not-refused : (c w : ℕ) (x : List ℤ) (first : ℕ) (recipe : List ℕ) (bits clauses : List ℤ) (answer : Written) (bits′ clauses′ : List ℤ)
     → Result c w x first recipe bits clauses answer bits′ clauses′
-    → checked c recipe ≡ Accepted → 1 ≤ w → w ≤ 16 → length x ≡ w → Fit first x → product-of c x first recipe .next ≤ most-next
+    → checked c recipe ≡ Accepted → 1 ≤ w → w ≤ 16 → length x ≡ w → Distinct-below first x → product-of c x first recipe .next ≤ most-next
     → y-length c w ≤ length bits → length (clause-words (product-of c x first recipe)) ≤ length clauses
     → written-number answer ≡ 0
 not-refused c w x first recipe bits clauses answer bits′ clauses′ r e p q l i n f h =

@@ -2,7 +2,7 @@
 -- variables from w + 1 on to those from the first free number on.
 use Prim.Native.Nat.{ℕ, zero, suc, _+_, _≤_, _<_}
 use mathlib.Core.Path.{_≡_, refl, sym, ap, ap₂, _∙_, subst}
-use mathlib.Core.Bool.{Bool, true, false, not, cond, _||_}
+use mathlib.Core.Bool.{Bool, true, false, not, cond}
 use mathlib.Core.List.{List, [], _∷_}
 use native.Mathlib.Nat.{not-suc-le-zero, add-zero, zero-add, suc-add}
 use native.Mathlib.Omega.{arith}
@@ -11,7 +11,8 @@ use lib.Dec.{eqb, ltb}
 use lib.IntN.{ℤ, pos, negsuc}
 use lib.ListN.{length, getD, length-map}
 use Rattle.cnf.specs.Clause.{Literal, Assignment, flips, new, value}
-use Rattle.cnf.specs.Words.{From-1, named, names, literal-of-word}
+use Rattle.cnf.specs.Words.{From-1, named, names, literal-of-word, Distinct-below}
+use Rattle.cnf.proofs.Words.{names-first, names-later}
 use Rattle.line.specs.declared.Line.{Line}
 use Rattle.recipe.proofs.Accepted.{neither}
 use Rattle.product.specs.Bit.{Bit, unfixed, given, numbered, num, reads}
@@ -23,15 +24,11 @@ use Rattle.product.proofs.Renamed.{bits-renamed, Renames, Product-renam
 
 -- ---- test 14
 
-abbrev pub Fit : ℕ → List ℤ → Type 0
-Fit first [] = Unit {0}
-Fit first (l ∷ ls) = (0 < named l) × (named l < first) × (names (named l) ls ≡ false) × Fit first ls
-
 pub not-false : (b : Bool) → not b ≡ false → b ≡ true
 not-false true e = refl
 not-false false e = sym e
 
-pub fit-of : (first : ℕ) (x : List ℤ) → unfit first x ≡ false → Fit first x
+pub fit-of : (first : ℕ) (x : List ℤ) → unfit first x ≡ false → Distinct-below first x
 fit-of first [] e = tt
 fit-of first (l ∷ ls) e =
     let a = neither (eqb (named l) 0) _ e in
@@ -39,18 +36,14 @@ fit-of first (l ∷ ls) e =
     let c = neither (names (named l) ls) _ (b .1) in
     (omega (arith, eqb-false (named l) 0 (a .0)), ltb-true (named l) first (not-false _ (b .0)), c .0, fit-of first ls (c .1))
 
-pub unfit-of : (first : ℕ) (x : List ℤ) → Fit first x → unfit first x ≡ false
+pub unfit-of : (first : ℕ) (x : List ℤ) → Distinct-below first x → unfit first x ≡ false
 unfit-of first [] i = refl
 unfit-of first (l ∷ ls) i = rw (ne-eqb (named l) 0 (λ e. omega (arith, i .0)), lt-ltb (named l) first (i .1), i .2, unfit-of first ls (i .3))
 
-pub fit-at : (first : ℕ) (x : List ℤ) → Fit first x → (j : ℕ) → j < length x → named (getD x j (pos 0)) < first
+pub fit-at : (first : ℕ) (x : List ℤ) → Distinct-below first x → (j : ℕ) → j < length x → named (getD x j (pos 0)) < first
 fit-at first [] i j h = absurd (not-suc-le-zero h)
 fit-at first (l ∷ ls) i zero h = i .1
 fit-at first (l ∷ ls) i (suc j) h = fit-at first ls (i .3) j (omega arith)
-
-or-later : (a b : Bool) → b ≡ true → a || b ≡ true
-or-later true b e = refl
-or-later false b e = e
 
 -- ---- the bits
 
@@ -61,16 +54,16 @@ variable-named : (l : ℤ) → literal-of-word l .variable ≡ named l
 variable-named (pos v) = refl
 variable-named (negsuc v) = refl
 
-pub given-below : (first : ℕ) (x : List ℤ) → Fit first x → Bits-below From-1 first (given x)
+pub given-below : (first : ℕ) (x : List ℤ) → Distinct-below first x → Bits-below From-1 first (given x)
 given-below first [] i = tt
 given-below first (l ∷ ls) i = ((omega (arith, variable-named l, i .0), omega (arith, variable-named l, i .1)), given-below first ls (i .3))
 
 -- and over the variables that x names, whatever may be said of them
-pub given-named : (Used : ℕ → Type 0) (first : ℕ) (x : List ℤ) → Fit first x → ((u : ℕ) → names u x ≡ true → Used u) → Bits-below Used first (given x)
+pub given-named : (Used : ℕ → Type 0) (first : ℕ) (x : List ℤ) → Distinct-below first x → ((u : ℕ) → names u x ≡ true → Used u) → Bits-below Used first (given x)
 given-named Used first [] i f = tt
 given-named Used first (l ∷ ls) i f =
-    let e : names (literal-of-word l .variable) (l ∷ ls) ≡ true = ap (λ (b : Bool). b || names (literal-of-word l .variable) ls) (eq-eqb (named l) _ (sym (variable-named l))) in
-    ((f (literal-of-word l .variable) e, omega (arith, variable-named l, i .1)), given-named Used first ls (i .3) (λ u q. f u (or-later (eqb (named l) u) (names u ls) q)))
+    let v : ℕ = literal-of-word l .variable in
+    ((f v (names-first v l ls (variable-named l)), omega (arith, variable-named l, i .1)), given-named Used first ls (i .3) (λ u q. f u (names-later u l ls q)))
 
 value-of-word : (α : Assignment) (l : ℤ) → 0 < named l → num (value α (literal-of-word l)) ≡ entry-value α l
 value-of-word α (pos zero) h = absurd (not-suc-le-zero h)
@@ -78,7 +71,7 @@ value-of-word α (pos (suc v)) h = refl
 value-of-word α (negsuc v) h = refl
 
 -- the number that the literals read as
-pub reads-given : (first : ℕ) (α : Assignment) (x : List ℤ) → Fit first x → reads α (given x) ≡ entries-read α x
+pub reads-given : (first : ℕ) (α : Assignment) (x : List ℤ) → Distinct-below first x → reads α (given x) ≡ entries-read α x
 reads-given first α [] i = refl
 reads-given first α (l ∷ ls) i = omega (arith, value-of-word α l (i .0), reads-given first α ls (i .3))
 
@@ -100,7 +93,7 @@ flips-self : (b : Bool) → flips b b ≡ false
 flips-self true = refl
 flips-self false = refl
 
-pub reads-all-false : (first : ℕ) (x : List ℤ) → Fit first x → reads (all-false x) (given x) ≡ 0
+pub reads-all-false : (first : ℕ) (x : List ℤ) → Distinct-below first x → reads (all-false x) (given x) ≡ 0
 reads-all-false first [] i = refl
 reads-all-false first (l ∷ ls) i =
     let α = all-false (l ∷ ls) in
@@ -123,7 +116,7 @@ unfolding name
 name-later [] first j = ap (λ (k : ℕ). new (first + k)) (zero-add j)
 name-later (l ∷ ls) first j = ap (name (l ∷ ls) first) (suc-add (length ls) j) ∙ name-later ls first j
 
-name-pos : (x : List ℤ) (first i : ℕ) → 0 < first → Fit first x → 0 < name x first i .variable
+name-pos : (x : List ℤ) (first i : ℕ) → 0 < first → Distinct-below first x → 0 < name x first i .variable
 unfolding name
 name-pos [] first i h f = omega arith
 name-pos (l ∷ ls) first zero h f = omega (arith, variable-named l, f .0)
@@ -136,7 +129,7 @@ name-other u [] first i h e q = omega arith
 name-other u (l ∷ ls) first zero h e q = eqb-false (named l) u (neither (eqb (named l) u) _ e .0) (sym (variable-named l) ∙ q)
 name-other u (l ∷ ls) first (suc i) h e q = name-other u ls first i h (neither (eqb (named l) u) _ e .1) q
 
-name-apart : (x : List ℤ) (first : ℕ) → Fit first x → (i j : ℕ) → name x first i .variable ≡ name x first j .variable → i ≡ j
+name-apart : (x : List ℤ) (first : ℕ) → Distinct-below first x → (i j : ℕ) → name x first i .variable ≡ name x first j .variable → i ≡ j
 unfolding name
 name-apart [] first f i j e = omega arith
 name-apart (l ∷ ls) first f zero zero e = refl
@@ -144,7 +137,7 @@ name-apart (l ∷ ls) first f zero (suc j) e = absurd (name-other (named l) ls f
 name-apart (l ∷ ls) first f (suc i) zero e = absurd (name-other (named l) ls first i (f .1) (f .2) (e ∙ variable-named l))
 name-apart (l ∷ ls) first f (suc i) (suc j) e = ap suc (name-apart ls first (f .3) i j e)
 
-pub renames : (x : List ℤ) (first : ℕ) → 0 < first → Fit first x → Renames (renaming x first) (suc (length x)) first
+pub renames : (x : List ℤ) (first : ℕ) → 0 < first → Distinct-below first x → Renames (renaming x first) (suc (length x)) first
 unfolding renaming
 renames x first h f = record { apart = apart; later = λ j. ap (renaming x first) (suc-add (length x) j) ∙ name-later x first j }
   where
@@ -181,21 +174,21 @@ unfolding numbered
 numbered-other u v zero h = refl
 numbered-other u v (suc w) h = rw (ne-eqb v u (λ e. omega arith)) (numbered-other u (suc v) w (omega arith))
 
-numbered-fits : (v w first : ℕ) → 0 < v → v + w ≤ first → Fit first (numbered v w)
+numbered-fits : (v w first : ℕ) → 0 < v → v + w ≤ first → Distinct-below first (numbered v w)
 unfolding numbered
 numbered-fits v zero first p h = tt
 numbered-fits v (suc w) first p h = (p, omega arith, numbered-other v (suc v) w (omega arith), numbered-fits (suc v) w first (omega arith) (omega arith))
 
-pub numbered-fit : (w : ℕ) → Fit (suc w) (numbered 1 w)
+pub numbered-fit : (w : ℕ) → Distinct-below (suc w) (numbered 1 w)
 numbered-fit w = numbered-fits 1 w (suc w) (omega arith) (omega arith)
 
-pub above-0 : (first : ℕ) (x : List ℤ) → 0 < length x → Fit first x → 0 < first
+pub above-0 : (first : ℕ) (x : List ℤ) → 0 < length x → Distinct-below first x → 0 < first
 above-0 first [] h f = absurd (not-suc-le-zero h)
 above-0 first (l ∷ ls) h f = omega (arith, f .1)
 
 -- ---- a product over given literals is that over the variables 1 to w with other names, and is counted alike
 
-module _ (x : List ℤ) (first : ℕ) (h : 0 < first) (f : Fit first x) (t : ℕ) (lines : List Line) where
+module _ (x : List ℤ) (first : ℕ) (h : 0 < first) (f : Distinct-below first x) (t : ℕ) (lines : List Line) where
   abbrev plain : Product
   plain = product t lines (given (numbered 1 (length x))) (suc (length x))
 
@@ -209,7 +202,7 @@ module _ (x : List ℤ) (first : ℕ) (h : 0 < first) (f : Fit first x) (t : ℕ
   counts-as-numbered = counts-same (renaming x first) plain (product t lines (given x) first) product-as-numbered
 
 -- what passing test 14 means
-pub literals-of : (w : ℕ) (x : List ℤ) (first : ℕ) → not-literals w x first ≡ false → (length x ≡ w) × Fit first x
+pub literals-of : (w : ℕ) (x : List ℤ) (first : ℕ) → not-literals w x first ≡ false → (length x ≡ w) × Distinct-below first x
 literals-of w x first e =
     let l = neither (not (eqb (length x) w)) (unfit first x) e in
     (eqb-true (length x) w (not-false _ (l .0)), fit-of first x (l .1))

@@ -10,9 +10,10 @@ use lib.IntN.{ℤ}
 use lib.ListN.{length, take, drop, length-map}
 use lib.Seq.{take-at, drop-at}
 use Rattle.line.specs.Number.{odd-part}
-use Rattle.line.specs.Refusal.{refusal-number}
 use Rattle.line.specs.declared.Refusal.{Refusal}
-use Rattle.line.specs.declared.Refusal.the-variants.{Constant, Width, Length, Form, Operand, Even, Value, Product, BitRoom, ClauseRoom, WorkRoom, RecipeRoom, Input, Literals, Variables}
+use Rattle.line.specs.declared.Refusal.the-variants.{Constant, Width, BitRoom, ClauseRoom, Literals, Variables}
+use Rattle.line.proofs.Refusals.{refusal-above-0}
+use Rattle.cnf.specs.Words.{Distinct-below}
 use Rattle.recipe.specs.Accepted.{Makes, Right}
 use Rattle.recipe.specs.Check.{recipe-checked}
 use Rattle.recipe.proofs.Accepted.{neither, accepted-makes, makes-accepted}
@@ -25,27 +26,10 @@ use Rattle.product.specs.Write.{written-number, words-used, bits-of-y, n
 use Rattle.product.specs.Demand.{Result, words-at-exit, entries-at-exit}
 use Rattle.product.specs.declared.Written.{Written}
 use Rattle.product.specs.declared.Written.the-variants.{Clauses, Refused}
-use Rattle.product.proofs.Given.{Fit, unfit-of, literals-of, above-0}
+use Rattle.product.proofs.Given.{unfit-of, literals-of, above-0}
 use Rattle.product.proofs.AcceptedMeans.{length-of-y}
 
 -- ---- each test
-
-refusal-above-0 : (x : Refusal) → 0 < refusal-number x
-refusal-above-0 Constant = omega arith
-refusal-above-0 Width = omega arith
-refusal-above-0 Length = omega arith
-refusal-above-0 Form = omega arith
-refusal-above-0 Operand = omega arith
-refusal-above-0 Even = omega arith
-refusal-above-0 Value = omega arith
-refusal-above-0 Product = omega arith
-refusal-above-0 BitRoom = omega arith
-refusal-above-0 ClauseRoom = omega arith
-refusal-above-0 WorkRoom = omega arith
-refusal-above-0 RecipeRoom = omega arith
-refusal-above-0 Input = omega arith
-refusal-above-0 Literals = omega arith
-refusal-above-0 Variables = omega arith
 
 passed : (t : Bool) (x : Refusal) (later : Written) → written-number (cond t (Refused x) later) ≡ 0 → (t ≡ false) × (written-number later ≡ 0)
 passed true x later e = absurd (omega (arith, refusal-above-0 x))
@@ -59,7 +43,7 @@ pub record Passes (c w : ℕ) (x : List ℤ) (first : ℕ) (recipe : List ℕ) (
   pub constant : (0 < c) × (c ≤ 65535)
   pub width : (0 < w) × (w ≤ 16)
   pub literals : length x ≡ w
-  pub fit : Fit first x
+  pub fit : Distinct-below first x
   pub makes : Makes (odd-part c) recipe
   pub next-fits : product-of c x first recipe .next ≤ most-next
   pub bits-fit : y-length c w ≤ bits
@@ -94,7 +78,7 @@ passes c w x first recipe bits clauses e =
     }
 
 -- and with every test passed there is no refusal
-pub passes-all : (c w : ℕ) (x : List ℤ) (first : ℕ) (recipe : List ℕ) (bits clauses : ℕ) → Right c recipe → 0 < w → w ≤ 16 → length x ≡ w → Fit first x
+pub passes-all : (c w : ℕ) (x : List ℤ) (first : ℕ) (recipe : List ℕ) (bits clauses : ℕ) → Right c recipe → 0 < w → w ≤ 16 → length x ≡ w → Distinct-below first x
     → product-of c x first recipe .next ≤ most-next → y-length c w ≤ bits → length (clause-words (product-of c x first recipe)) ≤ clauses
     → written-number (write-answer c w x first recipe bits clauses) ≡ 0
 unfolding write-answer

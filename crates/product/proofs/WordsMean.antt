@@ -11,13 +11,13 @@ use lib.ListN.{length, getD, take}
 use lib.IntN.{ℤ}
 use lib.Seq.{ext-getD, length-take-le}
 use Rattle.cnf.specs.Clause.{Assignment, flips, satisfies}
-use Rattle.cnf.specs.Words.{From-1, word-by, clauses-of, satisfies-words, highest-named}
+use Rattle.cnf.specs.Words.{From-1, word-by, clauses-of, satisfies-words, highest-named, Distinct-below}
 use Rattle.cnf.proofs.Extend.{past, Agree, satisfies-local}
 use Rattle.cnf.proofs.Words.{clauses-of-words, highest-of-words}
 use Rattle.product.specs.Bit.{Bit, fixed, unfixed, given, num, reads, stored}
 use Rattle.product.specs.Product.{Product, y-entries, clause-words}
 use Rattle.product.specs.Demand.{Bits-below, assignment, entry-value, entries-read, Demand-2}
-use Rattle.product.proofs.Given.{Fit, given-below, reads-given, all-false, reads-all-false}
+use Rattle.product.proofs.Given.{given-below, reads-given, all-false, reads-all-false}
 use Rattle.product.proofs.ProductMeans.{reads-local, Product-multiplies, y-not-fixed-at-1}
 
 -- ---- entries of the bit room
@@ -58,7 +58,7 @@ take-at-place (suc k) [] j h = refl
 take-at-place (suc k) (b ∷ a) zero h = refl
 take-at-place (suc k) (b ∷ a) (suc j) h = take-at-place k a j (omega arith)
 
-module _ (c : ℕ) (x : List ℤ) (first : ℕ) (fit : Fit first x) (some : 0 < first) (p : Product) (f : Product-multiplies From-1 c (given x) first p) where
+module _ (c : ℕ) (x : List ℤ) (first : ℕ) (fit : Distinct-below first x) (some : 0 < first) (p : Product) (f : Product-multiplies From-1 c (given x) first p) where
   pub no-bit-fixed-at-1 : (k : ℕ) → getD (p .y) k (fixed false) ≢ fixed true
   no-bit-fixed-at-1 = y-not-fixed-at-1 c (given x) first p f (given-below first x fit) (all-false x) (reads-all-false first x fit)
 
@@ -71,6 +71,14 @@ module _ (c : ℕ) (x : List ℤ) (first : ℕ) (fit : Fit first x) (some : 0 < 
   next-counted =
       let e : suc (first - 1) ≡ first = omega arith in
       highest-of-words (first - 1) (p .clauses) ∙ ap (λ (n : ℕ). past n (p .clauses)) e ∙ f .extends .opens
+
+  -- ---- what the words and the entries mean
+
+  pub words-satisfied : (α : Assignment) → satisfies-words α (clause-words p) ≡ satisfies α (p .clauses)
+  words-satisfied α = ap (satisfies α) (clauses-of-words (p .next) (p .clauses) (f .extends .names))
+
+  pub entries-multiply : (α : Assignment) → satisfies α (p .clauses) ≡ true → entries-read α (y-entries p) ≡ c * entries-read α x
+  entries-multiply α s = entries-of-y (p .next) α (p .y) (f .below) no-bit-fixed-at-1 ∙ f .value α s ∙ ap (λ (k : ℕ). c * k) (reads-given first α x fit)
 
   -- ---- demand 2
 
@@ -85,8 +93,6 @@ module _ (c : ℕ) (x : List ℤ) (first : ℕ) (fit : Fit first x) (some : 0 < 
       let la : length a ≡ n = length-table (b .0) 1 n in
       let at : (j : ℕ) → j < n → getD a j false ≡ b .0 (suc j) = λ j h. table-at (b .0) 1 n j h ∙ ap (b .0) (omega arith) in
       let agree : Agree From-1 (p .next) (assignment a) (b .0) = λ v p q. at (v - 1) (omega arith) ∙ ap (b .0) (omega arith) in
-      let same : (α : Assignment) → satisfies-words α (clause-words p) ≡ satisfies α (p .clauses) =
-      λ α. ap (satisfies α) (clauses-of-words (p .next) (p .clauses) (f .extends .names)) in
       record {
         values = a;
         long = la;
@@ -94,9 +100,9 @@ module _ (c : ℕ) (x : List ℤ) (first : ℕ) (fit : Fit first x) (some : 0 < 
             ext-getD false (take k a) before (length-take-le k a (omega arith) ∙ sym lb) (λ j h.
             let h′ : j < k = omega (arith, length-take-le k a (omega arith)) in
             take-at-place k a j h′ ∙ at j (omega arith) ∙ sym (b .1 (suc j) (omega arith) (omega arith)) ∙ ap (λ (i : ℕ). getD before i false) (omega arith));
-        existence = same (assignment a) ∙ satisfies-local From-1 (p .clauses) (f .extends .names) agree ∙ b .2;
+        existence = words-satisfied (assignment a) ∙ satisfies-local From-1 (p .clauses) (f .extends .names) agree ∙ b .2;
         uniqueness = λ o lo io so.
-            let s : satisfies (assignment o) (p .clauses) ≡ true = sym (same (assignment o)) ∙ so in
+            let s : satisfies (assignment o) (p .clauses) ≡ true = sym (words-satisfied (assignment o)) ∙ so in
             let e : Agree From-1 first (b .0) (assignment o) =
             λ v p l. sym (b .1 v p l) ∙ ap (λ (q : List Bool). getD q (v - 1) false) (sym io) ∙ take-at-place k o (v - 1) (omega arith) in
             let q = f .extends .unique (b .0) (assignment o) e (b .2) s in

@@ -22,7 +22,7 @@ use crate::lines::Place;
 use crate::lines::largest;
 use crate::lines::least;
 use crate::lines::write_lines;
-use gates::named;
+use cnf::named;
 use gates::word;
 use line::Line;
 use line::Refusal;

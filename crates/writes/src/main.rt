@@ -4,7 +4,7 @@
 // literals (4 bytes each, two's complement) and the recipe. A line is the refusal's number, words, clauses, next free number, bits of y, and a
 // sum over both rooms.
 
-use gates::named;
+use cnf::named;
 use libc::STDIN_FILENO;
 use libc::STDOUT_FILENO;
 use product::Written;

@@ -1,4 +1,4 @@
--- `gates::named`: a negative literal is negated where there is room for it, in 64 bits. Assumes nothing.
+-- `cnf::named`: a negative literal is negated where there is room for it, in 64 bits. Assumes nothing.
 use Prim.Native.Nat.{ℕ, _≤_}
 use mathlib.Core.Path.{ap, _∙_, sym, subst}
 use mathlib.Core.Bool.{true, false}
@@ -6,9 +6,9 @@ use lib.IntN.{ℤ, natAbs}
 use mir.Syntax.{w32, w64}
 use mir.Val.{SFits}
 use mir.ValLaws.{toZ-ofZ}
 use Rattle.cnf.proofs.Sign.{sign, widen, abs-le, minus-fits, minus-back, cast-abs, plain-abs}
-use Rattle.gates.proofs.named.Statement.{statement}
-use Rattle.gates.proofs.named.Tie as tie
+use Rattle.cnf.proofs.named.Statement.{statement}
+use Rattle.cnf.proofs.named.Tie as tie
 
 cast-result : tie.Need-cast-result
 cast-result c = subst (λ (x : ℤ). SFits w64 x) (sym (toZ-ofZ w32 (c .before .args .l) (c .before .fits .l))) (widen (c .before .args .l) (c .before .fits .l))

@@ -1,0 +1,11 @@
+pub mod Literals
+pub mod Scan
+pub mod Passing
+pub mod Giving
+pub mod Verdicts
+pub mod StepSets
+pub mod GivenKnown
+pub mod Propagation
+pub mod Exact
+pub mod Sound
+pub mod Cases
