@@ -1,9 +1,9 @@
 /* Constant products as SAT clauses: the archive's entry points (target/staticlib/libladlebean.a, by `rt staticlib ladlebean`; x86-64).
 
-   Each call answers 0, or the number of its refusal (docs/REFUSALS.md), and leaves counts in the slice `answers`. A refusal leaves every
-   room as it came and every count 0. A slice of answers that is too short is refused with 99, and then nothing at all is written.
-   No call has any other condition: every c, w, x, first, recipe and room is taken. Rooms must not overlap, and each pointer must be good for its
-   length; with length 0 it is not read. */
+   Each call answers 0, or the number of its refusal (docs/REFUSALS.md), and leaves counts in the slice `answers`, the pass over words in
+   `*clauses`. A refusal leaves every room as it came and every count 0. A slice of answers that is too short is refused with 99, and then nothing
+   at all is written. No call has any other condition: every c, w, x, first, recipe, list of words and room is taken. Rooms must not overlap, and
+   each pointer must be good for its length; with length 0 it is not read. */
 #ifndef LADLEBEAN_H
 #define LADLEBEAN_H
 
@@ -20,6 +20,11 @@ extern "C" {
 #define LADLEBEAN_MOST_CONSTANT 65535
 #define LADLEBEAN_MOST_WIDTH 16
 #define LADLEBEAN_MOST_NEXT 2147483648
+
+/* The values of a variable in a value room. */
+#define LADLEBEAN_FALSE 0
+#define LADLEBEAN_TRUE 1
+#define LADLEBEAN_UNKNOWN 2
 
 /* Rooms that are never too short. */
 #define LADLEBEAN_WORK 32768
@@ -48,11 +53,12 @@ uint64_t ladlebean_write(uint64_t c, uint32_t w, const int32_t *x, size_t x_leng
 uint64_t ladlebean_write_plain(uint64_t c, uint32_t w, const uint8_t *recipe, size_t recipe_length, int32_t *bits, size_t bits_length,
                                int32_t *clauses, size_t clauses_length, uint64_t *answers, size_t answers_length);
 
-/* The second engine: takes the given literals as true and reads the clauses of `words` once, in order, each for one of the allowance.
-   `values` has one byte for each variable, that of v at v - 1: 0 false, 1 true, 2 unknown, and comes in all unknown. Refusals 26, 20, 21,
-   22. After success `values` holds what was given and what the clauses set, and answers[0] the number of clauses read. One answer. */
+/* One pass over words that believes only the clauses. Takes the given literals as true and reads the clauses of `words` once, in order, each for
+   one of the allowance; a clause whose literals are false but for one unknown literal, perhaps repeated, sets it. `values` has one byte for
+   each variable, that of v at v - 1, and comes in all LADLEBEAN_UNKNOWN. Refusals: 26; then at each clause 20, 21, 22. After success `values` holds
+   what was given and what the clauses set, and `*clauses` is the number of clauses read; in a refusal it is 0. */
 uint64_t ladlebean_propagate(const int32_t *words, size_t words_length, const int32_t *given, size_t given_length, uint64_t allowance,
-                             uint8_t *values, size_t values_length, uint64_t *answers, size_t answers_length);
+                             uint8_t *values, size_t values_length, uint64_t *clauses);
 
 #ifdef __cplusplus
 }
