@@ -1,6 +1,6 @@
 //! Constant products as SAT clauses: a safe wrapper over the proved archive.
 //!
-//! Each call takes any arguments and refuses by document 01's numbers; a refusal leaves every room as it came.
+//! Each call takes any arguments and refuses by the documents' numbers; a refusal leaves every room as it came.
 
 /// The declarations of `include/ladlebean.h`.
 mod archive {
@@ -42,10 +42,20 @@ mod archive {
             answers: *mut u64,
             answers_length: usize,
         ) -> u64;
+        pub fn ladlebean_propagate(
+            words: *const i32,
+            words_length: usize,
+            given: *const i32,
+            given_length: usize,
+            allowance: u64,
+            values: *mut u8,
+            values_length: usize,
+            clauses: *mut u64,
+        ) -> u64;
     }
 }
 
-/// The number of a refusal, 1 to 15 (docs/REFUSALS.md).
+/// The number of a refusal (docs/REFUSALS.md).
 #[derive(Clone, Copy, Debug, PartialEq, Eq)]
 pub struct Refusal(pub u64);
 
@@ -130,4 +140,27 @@ pub fn write_plain(c: u64, w: u32, recipe: &[u8], bits: &mut [i32], clauses: &mu
         )
     };
     counted(number, answers)
+}
+
+/// What a value room has for a variable that nothing is known of; 0 is false and 1 true.
+pub const UNKNOWN: u8 = 2;
+
+/// One pass over words that believes only the clauses: takes the given literals as true, reads each clause once for one of the allowance, and leaves
+/// in `values` what was given and what the clauses set, that of variable v at v - 1. The room comes in all [`UNKNOWN`]. Gives the clauses read.
+pub fn propagate(words: &[i32], given: &[i32], allowance: u64, values: &mut [u8]) -> Result<u64, Refusal> {
+    let mut clauses = 0;
+    // SAFETY: each pointer is good for its length, `clauses` for one number, and distinct `&mut` do not overlap; the call asks no more.
+    let number = unsafe {
+        archive::ladlebean_propagate(
+            words.as_ptr(),
+            words.len(),
+            given.as_ptr(),
+            given.len(),
+            allowance,
+            values.as_mut_ptr(),
+            values.len(),
+            &mut clauses,
+        )
+    };
+    unless_refused(number, clauses)
 }

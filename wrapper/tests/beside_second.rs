@@ -121,6 +121,43 @@ fn the_panels_variables_or_the_first_ones() {
 }
 
 #[test]
+fn passes_agree() {
+    let mut reader = Reader(streams::propagations(SEED, 20_000), 0);
+    while !reader.ended() {
+        let (_, words, given, room) = (reader.number(1), reader.number(2), reader.number(1), reader.number(2));
+        let allowance = reader.number(8);
+        let mut list = |many: u64| -> Vec<i32> { (0..many).map(|_| (reader.number(4) as i64 - (1 << 31)) as i32).collect() };
+        let (words, given) = (list(words), list(given));
+        let mut ours = reader.take(room as usize);
+        let mut theirs = ours.clone();
+        let answer = ladlebean::propagate(&words, &given, allowance, &mut ours).map_err(|refusal| refusal.0 as u8);
+        assert_eq!(answer, second::propagate(&words, &given, allowance, &mut theirs), "{words:?} {given:?} {allowance}");
+        assert_eq!(ours, theirs, "{words:?} {given:?} {allowance}");
+    }
+}
+
+#[test]
+fn a_pass_multiplies() {
+    // what the archive wrote, read by the archive's pass alone: every variable that was opened has a value, and y is c times x
+    let mut recipe = [0; 40];
+    for (c, w, first) in [(1, 1, 40), (3, 2, 40), (53, 8, 1_000), (2_046, 16, 40), (43_691, 16, 60_000), (65_535, 5, 41)] {
+        let lines = ladlebean::plan(c, &mut vec![0; 1 << 15], &mut recipe).unwrap();
+        let x: Vec<i32> = (0..w as i32).map(|i| if i % 2 == 0 { -(37 - 2 * i) } else { 37 - 2 * i }).collect();
+        let written = left(32, 16_384, |b, k| told(ladlebean::write(c, w, &x, first, &recipe[..5 * lines], b, k)));
+        let (words, clauses, next, bits) = written.answer.unwrap();
+        for number in (0..1u64 << w).step_by(if w > 8 { 997 } else { 1 }) {
+            let given: Vec<i32> = x.iter().enumerate().map(|(i, l)| if number >> i & 1 == 1 { *l } else { -l }).collect();
+            let mut values = vec![ladlebean::UNKNOWN; next as usize - 1];
+            assert_eq!(ladlebean::propagate(&written.clauses[..words], &given, clauses as u64, &mut values), Ok(clauses as u64));
+            assert!(values[first as usize - 1..].iter().all(|value| *value < 2), "{c} {w} {number}");
+            let bit = |l: &i32| *l != 0 && values[l.unsigned_abs() as usize - 1] == u8::from(*l > 0);
+            let y: u64 = written.bits[..bits].iter().enumerate().map(|(i, l)| u64::from(bit(l)) << i).sum();
+            assert_eq!(y, c * number, "{c} {w} {number}");
+        }
+    }
+}
+
+#[test]
 fn constants_and_widths_of_every_size() {
     for c in [0, 1, 65_535, 65_536, u64::from(u32::MAX) + 1, u64::MAX] {
         assert_eq!(ladlebean::check(c, &[]).err().map(|refusal| refusal.0 as u8), second::check(c, &[]).err(), "{c}");
