@@ -25,10 +25,10 @@ static int show(uint64_t refused, const char *over, const uint64_t *counts) {
 static int read_off(uint32_t count, const uint64_t *counts) {
     static uint8_t values[1000];
     int32_t given[8];
-    uint64_t clauses, y = 0;
+    uint64_t clauses_read, y = 0;
     for (int i = 0; i < 8; i++) given[i] = count >> i & 1 ? meter[i] : -meter[i];
     for (size_t v = 0; v < counts[2] - 1; v++) values[v] = LADLEBEAN_UNKNOWN;
-    uint64_t refused = ladlebean_propagate(words, counts[0], given, 8, counts[1], values, counts[2] - 1, &clauses);
+    uint64_t refused = ladlebean_propagate(words, counts[0], given, 8, counts[1], values, counts[2] - 1, &clauses_read);
     if (refused) {
         printf("refused %" PRIu64 "\n", refused);
         return 1;
@@ -38,7 +38,7 @@ static int read_off(uint32_t count, const uint64_t *counts) {
         if (bit > 0) y |= (uint64_t)(values[bit - 1] == LADLEBEAN_TRUE) << i;
         if (bit < 0) y |= (uint64_t)(values[-bit - 1] == LADLEBEAN_FALSE) << i;
     }
-    printf("a pass over %" PRIu64 " clauses with the count %" PRIu32 ": y is %" PRIu64 "\n", clauses, count, y);
+    printf("a pass over %" PRIu64 " clauses with the count %" PRIu32 ": y is %" PRIu64 "\n", clauses_read, count, y);
     return 0;
 }
 

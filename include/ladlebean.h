@@ -1,7 +1,7 @@
 /* Constant products as SAT clauses: the archive's entry points (target/staticlib/libladlebean.a, by `rt staticlib ladlebean`; x86-64).
 
    Each call answers 0, or the number of its refusal (docs/REFUSALS.md), and leaves counts in the slice `answers`, the pass over words in
-   `*clauses`. A refusal leaves every room as it came and every count 0. A slice of answers that is too short is refused with 99, and then nothing
+   `*clauses_read`. A refusal leaves every room as it came and every count 0. A slice of answers that is too short is refused with 99, and then nothing
    at all is written. No call has any other condition: every c, w, x, first, recipe, list of words and room is taken. Rooms must not overlap, and
    each pointer must be good for its length; with length 0 it is not read. */
 #ifndef LADLEBEAN_H
@@ -56,9 +56,10 @@ uint64_t ladlebean_write_plain(uint64_t c, uint32_t w, const uint8_t *recipe, si
 /* One pass over words that believes only the clauses. Takes the given literals as true and reads the clauses of `words` once, in order, each for
    one of the allowance; a clause whose literals are false but for one unknown literal, perhaps repeated, sets it. `values` has one byte for
    each variable, that of v at v - 1, and comes in all LADLEBEAN_UNKNOWN. Refusals: 26; then at each clause 20, 21, 22. After success `values` holds
-   what was given and what the clauses set, and `*clauses` is the number of clauses read; in a refusal it is 0. */
+   what was given and what the clauses set, and `*clauses_read` is their number; in a refusal it is 0. Hand over only the words that were used: a 0 behind
+   them is an empty clause, which is a conflict. `clauses_read` points to one number. */
 uint64_t ladlebean_propagate(const int32_t *words, size_t words_length, const int32_t *given, size_t given_length, uint64_t allowance,
-                             uint8_t *values, size_t values_length, uint64_t *clauses);
+                             uint8_t *values, size_t values_length, uint64_t *clauses_read);
 
 #ifdef __cplusplus
 }

@@ -4,7 +4,7 @@
 -- `written c w x first recipe bits clauses`, document 01 as definitions. So what is said here of these functions is said of the calls, and two results that
 -- meet a contract are one (Once.antt, of every public call).
 --
--- Demand 1. Every call takes any constant, width, recipe and rooms: no contract has a condition on the caller. It refuses by document 01's numbers,
+-- Demand 1. Every call takes any constant, width, recipe and rooms: no contract has a condition on the caller. It refuses by the documents' numbers,
 -- exactly where they say: that is the text of the three functions. A refusal writes nothing (`planning-refused`, `writing-refused`): where the
 -- answer is a refusal, whichever it is, each room at exit is what it was.
 --
@@ -28,14 +28,16 @@
 -- the odd part's non-adjacent form less one (`few-lines`), of which every positive number has exactly one (`one-form`). At width w its clauses, read
 -- off the room, are at most 14 * (L + w) a line (`few-clauses`).
 --
--- A second engine that believes only the clauses (document 02 i): `propagated words given allowance room` is the answer and the room at exit of a pass, and
--- two outcomes that meet its contract are one. It refuses by 26 exactly where the room has a value or the literals are not of distinct variables of the room
--- (`pass-started`), and in success its count is that of the clauses which the words are (`pass-counted`). What it says of any words follows from the clauses
--- and the given literals: every assignment that satisfies both has each value that a success leaves (`pass-forced`), and where it answers 22 no assignment
--- satisfies both (`conflict-real`). A refusal leaves the room as it came (`pass-refused`). On the words of an accepted recipe as they stand in the room, with
--- allowance for every clause, a room for every variable and for every bit of x its literal or its negation given, it succeeds, reads every clause, sets
--- every variable opened, and y read off the values is c times the number given (`second-engine`). Of the clauses that is proved from the laws of a step
--- that opens a variable alone (crates/cnf, `Extends`), whichever columns make the steps.
+-- One pass over words that believes only the clauses (document 02 i, which calls it a second engine): `propagated words given allowance room` is its answer
+-- and the room at exit, and two outcomes that meet its contract are one. It refuses by 26 exactly where the room is not all unknown or the literals are not
+-- of distinct variables of the room (`pass-started`), and in success its count is that of the clauses which the words are (`pass-counted`). What it says of any
+-- words follows from the clauses and the given literals: every assignment that satisfies both has each value that a success leaves (`pass-forced`), and
+-- where it answers 22 no assignment satisfies both (`conflict-real`). A refusal leaves the room as it came (`pass-refused`).
+--
+-- On the words of an accepted recipe as they stand in the room, with allowance for every clause, an all-unknown room for every variable, and literals of
+-- distinct variables below the first free number given, among them for every bit of x its literal or its negation, it succeeds, reads every clause, sets
+-- every variable opened, and y read off the values is c times the number given (`pass-multiplies`). That it sets them is proved from the laws of a step that
+-- opens a variable (crates/cnf, `Extends`), whichever columns make the steps; that y is c times x then is demand 2's own law.
 use Prim.Native.Nat.{ℕ, suc, _+_, _-_, _*_, _/_, _%_, _^_, _≤_, _<_}
 use mathlib.Core.Path.{_≡_, refl, ap, _∙_}
 use mathlib.Core.Bool.{Bool, true, false}
@@ -82,8 +84,8 @@ use Rattle.propagate.specs.declared.Propagated.{Propagated}
 use Rattle.propagate.specs.declared.Propagated.the-variants as pass-answers
 use Rattle.propagate.proofs.Exact.{refused-room, refused-26, given-right}
 use Rattle.propagate.proofs.Sound.{Sound, sound, count-read}
-use Rattle.ladlebean.specs.Engine.{Second-engine}
-use Rattle.ladlebean.proofs.Engine as engine
+use Rattle.ladlebean.specs.OurWords.{Pass-multiplies}
+use Rattle.ladlebean.proofs.OurWords as our-words
 
 -- ---- demand 1
 
@@ -137,11 +139,11 @@ module _ (c w : ℕ) (x : List ℤ) (first : ℕ) (recipe : List ℕ) (bits clau
   new-variables = opened c w x first recipe bits clauses answer bits′ clauses′ meets succeeds
 
   -- one pass over the words, with every bit of x given
-  pub second-engine : (gs : List ℤ) → Distinct-below first gs → ((v : ℕ) → names v x ≡ true → names v gs ≡ true)
+  pub pass-multiplies : (gs : List ℤ) → Distinct-below first gs → ((v : ℕ) → names v x ≡ true → names v gs ≡ true)
       → (allowance : ℕ) → clauses-written answer ≤ allowance → (room : List ℕ) → all-unknown room ≡ true → next-free answer ≤ suc (length room)
-      → Second-engine c x first (next-free answer) (clauses-written answer) (words-at-exit answer clauses′) (entries-at-exit answer bits′) gs room
+      → Pass-multiplies c x first (next-free answer) (clauses-written answer) (words-at-exit answer clauses′) (entries-at-exit answer bits′) gs room
       (propagated (words-at-exit answer clauses′) gs allowance room)
-  second-engine = engine.second-engine c w x first recipe bits clauses answer bits′ clauses′ meets succeeds
+  pass-multiplies = our-words.pass-multiplies c w x first recipe bits clauses answer bits′ clauses′ meets succeeds
 
 -- document 01's call is the case where x is the variables 1 to w and the first free number is w + 1
 module _ (c w : ℕ) (recipe : List ℕ) (bits clauses : List ℤ) (answer : Written) (bits′ clauses′ : List ℤ)

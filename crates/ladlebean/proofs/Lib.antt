@@ -3,4 +3,4 @@ pub mod PlanCases
 pub mod Bench
 pub mod Demands
 pub mod Calls
-pub mod Engine
+pub mod OurWords

@@ -1,2 +1,2 @@
 pub mod Archive
-pub mod Engine
+pub mod OurWords

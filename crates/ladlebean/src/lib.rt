@@ -1,4 +1,4 @@
-// The archive for C: plan, check, write and the second engine over numbers and slices. A slice passes as a pointer and a length.
+// The archive for C: plan, check, write and one pass over words, over numbers and slices. A slice passes as a pointer and a length.
 
 ghost use mathlib.Core.Path.{_≡_};
 ghost use Prim.Native.Nat.{_≤_};
@@ -90,7 +90,7 @@ pub extern "C" fn ladlebean_write_plain(
     tell(write::write_plain(c, w, recipe, bits, clauses), answers)
 }
 
-// The second engine: one pass of unit propagation over words. 0, or the refusal's number; `clauses` is the number of clauses read.
+// One pass over words that believes only the clauses: 0, or the refusal's number; `clauses` is the number of clauses read.
 #[no_mangle]
 pub extern "C" fn ladlebean_propagate(
     words: &[i32],

@@ -19,7 +19,7 @@ use Rattle.product.specs.declared.Counts.{Counts}
 use Rattle.product.specs.declared.Written.{Written}
 use Rattle.product.specs.declared.Written.the-variants.{Clauses, Refused}
 
--- ---- document 01's number of an answer, 0 for success, and its counts, zero in a refusal
+-- ---- the documents' number of an answer, 0 for success, and its counts, zero in a refusal
 
 abbrev pub written-number : Written → ℕ
 written-number (Clauses words clauses next bits) = 0

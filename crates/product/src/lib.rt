@@ -23,7 +23,7 @@ pub struct Counts {
 }
 
 impl Written {
-    // Document 01's number, 0 for success.
+    // The documents' number, 0 for success.
     pub fn number(self) -> u64
         ensures { λ r. ⌜ (r ≡ written-number self) × (r < 100) ⌝ }
     {

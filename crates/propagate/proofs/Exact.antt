@@ -1,5 +1,5 @@
 -- `refused-room`: a refusal leaves the room as it came.
--- `refused-26` and `given-right`: 26 is given exactly where the room holds a value, or a literal is 0, beyond the room, or of a variable given before.
+-- `refused-26` and `given-right`: 26 is given exactly where the room is not all unknown, or a literal is 0, beyond the room, or of a variable given before.
 use Prim.Native.Nat.{ℕ, zero, suc, _-_, _≤_, _<_}
 use mathlib.Core.Path.{_≡_, refl, ap, _∙_, subst}
 use mathlib.Core.Logic.{_⊎_, ⊎-elim}

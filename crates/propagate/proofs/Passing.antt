@@ -1,4 +1,4 @@
--- The pass, a clause at a time; the literals that hold; and the call's rooms. Assumes nothing.
+-- The pass, a clause at a time. Assumes nothing.
 use mathlib.Core.Path.{_≡_, refl, sym, ap, ap₂, _∙_, subst}
 use mathlib.Core.Bool.{Bool, true, false, cond, _&&_}
 use mathlib.Core.List.{List, [], _∷_}

@@ -1,4 +1,4 @@
-// A second engine that believes only the clauses: one pass of unit propagation over the words, with an allowance of clauses.
+// One pass of unit propagation over words, with an allowance of clauses. It believes only the clauses.
 
 use cnf::named;
 use line::Refusal;
@@ -169,7 +169,8 @@ fn pass(words: &[i32], allowance: u64, values: &mut [u8]) -> Propagated
 
 // ---- the call
 
-fn no_value(values: &[u8]) -> bool
+// Whether every byte is 2.
+fn all_unknown(values: &[u8]) -> bool
     ensures { λ r. ⌜ r ≡ all-unknown (now (values .entry)) ⌝ }
 {
     let mut i: usize = 0;
@@ -221,7 +222,7 @@ pub fn propagate(words: &[i32], given: &[i32], allowance: u64, values: &mut [u8]
     ensures { λ r. ⌜ r ≡ propagated (now (words .entry)) (now (given .entry)) allowance (now (values .entry)) .answer ⌝ }
     ensures { λ r. ⌜ now (values .exit) ≡ propagated (now (words .entry)) (now (given .entry)) allowance (now (values .entry)) .room ⌝ }
 {
-    if !no_value(values) {
+    if !all_unknown(values) {
         return Propagated::Refused(Refusal::Given);
     }
     if !give(given, values) {

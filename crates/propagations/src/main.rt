@@ -1,4 +1,4 @@
-// The second engine as a program: reads records from standard input until it ends, or ends inside one, and prints for each what
+// One pass over words as a program: reads records from standard input until it ends, or ends inside one, and prints for each what
 // `propagate::propagate` answered. A record is how many times more the pass is made (1 byte), each on the room as it came, so that it can be timed;
 // the number of words (2 bytes, most significant first), of given literals (1 byte) and of bytes of the value room (2); the allowance (8); then the
 // words and the literals (4 bytes each, with 2^31 added), and the room. A line is the refusal's number, the clauses read and a sum over the room.

@@ -1,11 +1,11 @@
--- `propagate::no_value`: what is left is the whole (proofs/Giving.antt). Assumes nothing.
+-- `propagate::all_unknown`: what is left is the whole (proofs/Giving.antt). Assumes nothing.
 use Prim.Native.Nat.{_-_}
 use mathlib.Core.Path.{sym}
 use native.Mathlib.Omega.{arith}
 use lib.ListN.{length}
 use Rattle.propagate.proofs.Giving.{Looking, looking-begins, looking-ends, looking-finds, looking-on}
-use Rattle.propagate.proofs.no_value.Statement.{statement}
-use Rattle.propagate.proofs.no_value.Tie as tie
+use Rattle.propagate.proofs.all_unknown.Statement.{statement}
+use Rattle.propagate.proofs.all_unknown.Tie as tie
 
 abbrev Inv-loop : tie.InvT-loop
 Inv-loop values i₀ i = Looking values i
@@ -25,7 +25,7 @@ loop-again c = let l = c .before .before .before .loop in looking-on _ (l .i) (l
 returns-2 : tie.Need-returns-2 Inv-loop μ-loop
 returns-2 c = let l = c .before .loop in sym (looking-ends _ (l .i) (l .inv) (omega arith))
 
-pub no-value-spec : {M : Type 1} → statement M
-no-value-spec =
+pub all-unknown-spec : {M : Type 1} → statement M
+all-unknown-spec =
     tie.close
     (tie.spec Inv-loop μ-loop loop-holds (λ c. omega arith) returns (λ c. omega arith) (λ c. omega arith) loop-again returns-2)

@@ -1,6 +1,6 @@
--- Request i: the second engine on our words (`second-engine`). Any answer and rooms that meet the contract of `write` and are no refusal; given
+-- Document 02 i: one pass over the words that writing left (`pass-multiplies`). Any answer and rooms that meet the contract of `write` and are no refusal; given
 -- literals of distinct variables below the first free number, among them each of x or its negation, in any order; an allowance for every clause, and
--- a room for every variable, with no value in it.
+-- an all-unknown room for every variable.
 --
 -- Of the clauses only this is used: they are steps that each open one variable (crates/cnf, `Extends`), and where they hold y is c times x.
 use Prim.Native.Nat.{ℕ, zero, suc, _+_, _*_, _≤_, _<_}
@@ -29,7 +29,7 @@ use Rattle.propagate.specs.Pass.{all-unknown, propagated}
 use Rattle.propagate.specs.Promise.{read-off, True-in, Given-or-new, Sets-all}
 use Rattle.propagate.proofs.GivenKnown.{given-value}
 use Rattle.propagate.proofs.Propagation.{sets-all}
-use Rattle.ladlebean.specs.Engine.{says, number-given, Second-engine}
+use Rattle.ladlebean.specs.OurWords.{says, number-given, Pass-multiplies}
 
 -- ---- the number that is given, read off a room in which the given literals are true
 
@@ -105,10 +105,10 @@ module _ (c w : ℕ) (x : List ℤ) (first : ℕ) (recipe : List ℕ) (bits clau
     (gs : List ℤ) (distinct : Distinct-below first gs) (every : (v : ℕ) → names v x ≡ true → names v gs ≡ true)
     (allowance : ℕ) (enough : clauses-written answer ≤ allowance)
     (room : List ℕ) (unknown : all-unknown room ≡ true) (long : next-free answer ≤ suc (length room)) where
-  pub second-engine :
-      Second-engine c x first (next-free answer) (clauses-written answer) (words-at-exit answer clauses′) (entries-at-exit answer bits′) gs room
+  pub pass-multiplies :
+      Pass-multiplies c x first (next-free answer) (clauses-written answer) (words-at-exit answer clauses′) (entries-at-exit answer bits′) gs room
       (propagated (words-at-exit answer clauses′) gs allowance room)
-  second-engine =
+  pass-multiplies =
       let s = success c w x first recipe bits clauses answer bits′ clauses′ meets succeeds in
       let p = product-of c x first recipe in
       let o = propagated (clause-words p) gs allowance room in

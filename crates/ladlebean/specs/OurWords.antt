@@ -1,5 +1,5 @@
--- Request i: the second engine on our words. Given are literals below the first free number, among them each of x or its negation; y is c times
--- the number that these literals say, read off the value room.
+-- Document 02 i: one pass over the words that writing left. Given are literals below the first free number, among them each of x or its negation; y is
+-- c times the number that these literals say, read off the value room.
 use Prim.Native.Nat.{ℕ, _+_, _*_, _≤_, _<_}
 use mathlib.Core.Path.{_≡_}
 use mathlib.Core.Bool.{Bool, true, false, _&&_, _||_}
@@ -27,7 +27,7 @@ number-given gs (l ∷ x) = num (says gs l) + 2 * number-given gs x
 
 -- every clause is read, every given literal is true, every variable from first to the one before the next free one is set and none from there on,
 -- the values satisfy the words, and the entries read as c times the number that is given
-pub record Second-engine (c : ℕ) (x : List ℤ) (first next clauses : ℕ) (ws entries given : List ℤ) (room : List ℕ) (o : Outcome) : Type 0 where
+pub record Pass-multiplies (c : ℕ) (x : List ℤ) (first next clauses : ℕ) (ws entries given : List ℤ) (room : List ℕ) (o : Outcome) : Type 0 where
   pub read : o .answer ≡ Read clauses
   pub long : length (o .room) ≡ length room
   pub holds : True-in (o .room) given
