@@ -141,7 +141,7 @@ module _ (c w : ℕ) (x : List ℤ) (first : ℕ) (recipe : List ℕ) (bits clau
   -- one pass over the words, with every bit of x given
   pub pass-multiplies : (gs : List ℤ) → Distinct-below first gs → ((v : ℕ) → names v x ≡ true → names v gs ≡ true)
       → (allowance : ℕ) → clauses-written answer ≤ allowance → (room : List ℕ) → all-unknown room ≡ true → next-free answer ≤ suc (length room)
-      → Pass-multiplies c x first (next-free answer) (clauses-written answer) (words-at-exit answer clauses′) (entries-at-exit answer bits′) gs room
+      → Pass-multiplies c x first (next-free answer) (words-at-exit answer clauses′) (entries-at-exit answer bits′) gs room
       (propagated (words-at-exit answer clauses′) gs allowance room)
   pass-multiplies = our-words.pass-multiplies c w x first recipe bits clauses answer bits′ clauses′ meets succeeds
 

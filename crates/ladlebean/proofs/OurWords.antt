@@ -4,7 +4,7 @@
 --
 -- Of the clauses only this is used: they are steps that each open one variable (crates/cnf, `Extends`), and where they hold y is c times x.
 use Prim.Native.Nat.{ℕ, zero, suc, _+_, _*_, _≤_, _<_}
-use mathlib.Core.Path.{_≡_, refl, sym, ap, ap₂, _∙_}
+use mathlib.Core.Path.{_≡_, refl, sym, ap, ap₂, _∙_, subst}
 use mathlib.Core.Logic.{_⊎_, inl, inr, ⊎-elim}
 use mathlib.Core.Bool.{Bool, true, false, not, _&&_, _||_, false≢true}
 use mathlib.Core.List.{List, [], _∷_}
@@ -13,15 +13,16 @@ use borrow.Author.Tests.{eq-eqb, eqb-true, eqb-false}
 use lib.Dec.{eqb}
 use lib.IntN.{ℤ, pos, negsuc}
 use lib.ListN.{length}
+use Rattle.cnf.specs.Clause.{Clause}
 use Rattle.cnf.specs.Words.{named, names, Distinct-below}
-use Rattle.cnf.proofs.Words.{names-either, names-first, names-later}
+use Rattle.cnf.proofs.Words.{clauses-of-words, names-either, names-first, names-later}
 use Rattle.product.specs.Bit.{num}
 use Rattle.product.specs.Product.{product-of, clause-words}
 use Rattle.product.specs.Write.{written-number, clauses-written, next-free}
 use Rattle.product.specs.Demand.{entry-value, entries-read, Result, words-at-exit, entries-at-exit}
 use Rattle.product.specs.declared.Written.{Written}
 use Rattle.product.proofs.Given.{given-named}
-use Rattle.product.proofs.WordsMean.{words-satisfied, entries-multiply}
+use Rattle.product.proofs.WordsMean.{entries-multiply}
 use Rattle.product.proofs.AcceptedMeans.{product-by, product-of-multiplies}
 use Rattle.product.proofs.Success.{success}
 use Rattle.propagate.specs.Clause.{wanted, value-at}
@@ -69,7 +70,8 @@ module _ (room : List ℕ) (l : ℤ) where
       first-or-later true e = refl
       first-or-later false e = never-said gs (t .1) e
 
-      go : (b : Bool) → eqb (named g) (named l) ≡ b → (names (named l) gs ≡ true → says gs l ≡ true-there) → same g || says gs l ≡ true-there
+      go : (b : Bool) → eqb (named g) (named l) ≡ b → (names (named l) gs ≡ true → says gs l ≡ true-there)
+          → same g || says gs l ≡ true-there
       go true e f = ap (λ (b : Bool). b || says gs l) (same-is g (t .0) (eqb-true (named g) (named l) e)) ∙ first-or-later true-there refl
       go false e f =
           ap (λ (b : Bool). b || says gs l) (not-same g (eqb-false (named g) (named l) e))
@@ -84,12 +86,14 @@ module _ (room : List ℕ) (l : ℤ) where
       flipped (suc zero) h = refl
       flipped (suc (suc k)) h = absurd (omega arith)
 
-      go : (l : ℤ) → 0 < named l → value-at room (named l) ≤ 1 → entry-value (read-off room) l ≡ num (eqb (value-at room (named l)) (wanted l))
+      go : (l : ℤ) → 0 < named l → value-at room (named l) ≤ 1
+          → entry-value (read-off room) l ≡ num (eqb (value-at room (named l)) (wanted l))
       go (pos zero) p h = absurd (omega arith)
       go (pos (suc v)) p h = refl
       go (negsuc v) p h = flipped (value-at room (suc v)) h
 
-number-there : (first : ℕ) (room : List ℕ) (gs x : List ℤ) → Distinct-below first x → True-in room gs → ((v : ℕ) → names v x ≡ true → names v gs ≡ true)
+number-there : (first : ℕ) (room : List ℕ) (gs x : List ℤ) → Distinct-below first x → True-in room gs
+    → ((v : ℕ) → names v x ≡ true → names v gs ≡ true)
     → entries-read (read-off room) x ≡ number-given gs x
 number-there first room gs [] d t f = refl
 number-there first room gs (l ∷ x) d t f =
@@ -106,7 +110,7 @@ module _ (c w : ℕ) (x : List ℤ) (first : ℕ) (recipe : List ℕ) (bits clau
     (allowance : ℕ) (enough : clauses-written answer ≤ allowance)
     (room : List ℕ) (unknown : all-unknown room ≡ true) (long : next-free answer ≤ suc (length room)) where
   pub pass-multiplies :
-      Pass-multiplies c x first (next-free answer) (clauses-written answer) (words-at-exit answer clauses′) (entries-at-exit answer bits′) gs room
+      Pass-multiplies c x first (next-free answer) (words-at-exit answer clauses′) (entries-at-exit answer bits′) gs room
       (propagated (words-at-exit answer clauses′) gs allowance room)
   pass-multiplies =
       let s = success c w x first recipe bits clauses answer bits′ clauses′ meets succeeds in
@@ -114,18 +118,15 @@ module _ (c w : ℕ) (x : List ℤ) (first : ℕ) (recipe : List ℕ) (bits clau
       let o = propagated (clause-words p) gs allowance room in
       let fit = s .tests .fit in
       let f = product-of-multiplies c x first recipe (s .tests .makes) (s .some) fit in
-      let g = product-by c x first recipe (s .tests .makes) (Given-or-new gs first) (λ v l. inr l) (given-named (Given-or-new gs first) first x fit (λ v e. inl (every v e))) in
-      let ec = ap clauses-written (s .is) in
+      let g = product-by c x first recipe (s .tests .makes) (Given-or-new gs first) (λ v l. inr l)
+      (given-named (Given-or-new gs first) first x fit (λ v e. inl (every v e))) in
       let en = ap next-free (s .is) in
       let a : Sets-all first (p .next) (p .clauses) gs room o =
-      sets-all first (s .some) gs distinct (p .next) (p .clauses) (g .extends) allowance room unknown (omega (arith, enough, ec)) (omega (arith, long, en)) in
-      rw (s .words-are, s .entries-are, ec, en)
+      sets-all first (s .some) gs distinct (p .next) (p .clauses) (g .extends) allowance room unknown
+      (omega (arith, enough, ap clauses-written (s .is))) (omega (arith, long, en)) in
+      rw (s .words-are, s .entries-are, en)
       record {
-        read = a .read;
-        long = a .long;
-        holds = a .holds;
-        set = a .set;
-        rest = a .rest;
-        satisfied = words-satisfied c x first fit (s .some) p f (read-off (o .room)) ∙ a .satisfied;
-        value = entries-multiply c x first fit (s .some) p f (read-off (o .room)) (a .satisfied) ∙ ap (λ (k : ℕ). c * k) (number-there first (o .room) gs x fit (a .holds) every);
+        sets = subst (λ (cs : List Clause). Sets-all first (p .next) cs gs room o) (sym (clauses-of-words (p .next) (p .clauses) (f .extends .names))) a;
+        value = entries-multiply c x first fit (s .some) p f (read-off (o .room)) (a .satisfied)
+            ∙ ap (λ (k : ℕ). c * k) (number-there first (o .room) gs x fit (a .holds) every);
       }

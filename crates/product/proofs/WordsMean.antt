@@ -74,7 +74,7 @@ module _ (c : ℕ) (x : List ℤ) (first : ℕ) (fit : Distinct-below first x) (
 
   -- ---- what the words and the entries mean
 
-  pub words-satisfied : (α : Assignment) → satisfies-words α (clause-words p) ≡ satisfies α (p .clauses)
+  words-satisfied : (α : Assignment) → satisfies-words α (clause-words p) ≡ satisfies α (p .clauses)
   words-satisfied α = ap (satisfies α) (clauses-of-words (p .next) (p .clauses) (f .extends .names))
 
   pub entries-multiply : (α : Assignment) → satisfies α (p .clauses) ≡ true → entries-read α (y-entries p) ≡ c * entries-read α x

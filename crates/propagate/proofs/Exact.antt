@@ -40,14 +40,21 @@ pub takes : (g : ℤ) (room : List ℕ) → not-given g room ≡ false → Takes
 takes g room e =
     let a = or-false (eqb (named g) 0) (ltb (length room) (named g) || ltb (value-at room (named g)) 2) e in
     let b = or-false (ltb (length room) (named g)) (ltb (value-at room (named g)) 2) (a .1) in
-    record { some = omega (arith, eqb-false (named g) 0 (a .0)); inside = ltb-false (length room) (named g) (b .0); unknown = ltb-false (value-at room (named g)) 2 (b .1) }
+    record {
+      some =
+          omega (arith, eqb-false (named g) 0 (a .0));
+      inside = ltb-false (length room) (named g) (b .0);
+      unknown = ltb-false (value-at room (named g)) 2 (b .1);
+    }
 
 -- one more literal was held: it was taken, and the others are held behind it
-held-more : (g : ℤ) (gs : List ℤ) (room : List ℕ) → given-rest (g ∷ gs) room .held ≡ true → Takes g room × (given-rest gs (set room (named g - 1) (wanted g)) .held ≡ true)
+held-more : (g : ℤ) (gs : List ℤ) (room : List ℕ) → given-rest (g ∷ gs) room .held ≡ true
+    → Takes g room × (given-rest gs (set room (named g - 1) (wanted g)) .held ≡ true)
 unfolding given-rest
 held-more g gs room e = go (not-given g room) refl e
   where
-    go : (b : Bool) → not-given g room ≡ b → cond b (record { held = false; room = room }) (given-rest gs (set room (named g - 1) (wanted g))) .held ≡ true
+    go : (b : Bool) → not-given g room ≡ b
+        → cond b (record { held = false; room = room }) (given-rest gs (set room (named g - 1) (wanted g))) .held ≡ true
         → Takes g room × (given-rest gs (set room (named g - 1) (wanted g)) .held ≡ true)
     go true q f = absurd (false≢true f)
     go false q f = (takes g room q, f)
@@ -81,7 +88,8 @@ held-distinct (g ∷ gs) room e =
       subst (λ (k : ℕ). Distinct-below (suc k) gs) le (held-distinct gs room₁ (h .1)),
     )
 
-pub distinct-held : (gs : List ℤ) (room : List ℕ) → all-unknown room ≡ true → Distinct-below (suc (length room)) gs → given-rest gs room .held ≡ true
+pub distinct-held : (gs : List ℤ) (room : List ℕ) → all-unknown room ≡ true → Distinct-below (suc (length room)) gs
+    → given-rest gs room .held ≡ true
 distinct-held gs room u d =
     let e = unknown-room room u in
     ap (λ (h : Held). h .held) (taken (suc (length room)) gs room d (omega arith) (λ v m. ap (λ (l : List ℕ). value-at l v) e ∙ value-unknowns (length room) v) .1 .is)
@@ -112,17 +120,21 @@ module _ (ws gs : List ℤ) (allowance : ℕ) (room : List ℕ) where
   by-tests : (a b : Bool) → all-unknown room ≡ a → given-rest gs room .held ≡ b
       → propagated-number (propagated ws gs allowance room .answer) ≡ cond (a && b) (propagated-number (passed allowance 0 ws (given-rest gs room .room) .answer)) 26
   unfolding propagated
-  by-tests true true e f = rw (e, f) (ap propagated-number (settled-number room (passed allowance 0 ws (given-rest gs room .room) .answer) (passed allowance 0 ws (given-rest gs room .room) .room)))
+  by-tests true true e f =
+      rw (e, f) (ap propagated-number (settled-number room (passed allowance 0 ws (given-rest gs room .room) .answer) (passed allowance 0 ws (given-rest gs room .room) .room)))
   by-tests true false e f = rw (e, f)
   by-tests false b e f = rw e
 
-  pub refused-26 : propagated-number (propagated ws gs allowance room .answer) ≡ 26 → all-unknown room ≡ true → Distinct-below (suc (length room)) gs → ⊥
+  pub refused-26 : propagated-number (propagated ws gs allowance room .answer) ≡ 26 → all-unknown room ≡ true
+      → Distinct-below (suc (length room)) gs → ⊥
   refused-26 e u d = omega (arith, by-tests true true u (distinct-held gs room u d), pass-not-26 allowance 0 ws (given-rest gs room .room))
 
-  pub given-right : (propagated-number (propagated ws gs allowance room .answer) ≡ 26 → ⊥) → (all-unknown room ≡ true) × Distinct-below (suc (length room)) gs
+  pub given-right : (propagated-number (propagated ws gs allowance room .answer) ≡ 26 → ⊥)
+      → (all-unknown room ≡ true) × Distinct-below (suc (length room)) gs
   given-right f = go (all-unknown room) refl (given-rest gs room .held) refl
     where
-      go : (a : Bool) → all-unknown room ≡ a → (b : Bool) → given-rest gs room .held ≡ b → (all-unknown room ≡ true) × Distinct-below (suc (length room)) gs
+      go : (a : Bool) → all-unknown room ≡ a → (b : Bool) → given-rest gs room .held ≡ b
+          → (all-unknown room ≡ true) × Distinct-below (suc (length room)) gs
       go true e true h = (e, held-distinct gs room h)
       go true e false h = absurd (f (by-tests true false e h))
       go false e b h = absurd (f (by-tests false b e h))
@@ -135,7 +147,8 @@ module _ (ws gs : List ℤ) (allowance : ℕ) (room : List ℕ) where
       after (Read n) l f = absurd (let z : _≡_ {A = ℕ} 0 1 = cc in omega arith)
       after (Refused y) l f = refl
 
-      go : (b : Bool) (o : Outcome) → cond b (settled room (o .answer) (o .room)) (record { answer = Refused Given; room = room }) .answer ≡ Refused x
+      go : (b : Bool) (o : Outcome)
+          → cond b (settled room (o .answer) (o .room)) (record { answer = Refused Given; room = room }) .answer ≡ Refused x
           → cond b (settled room (o .answer) (o .room)) (record { answer = Refused Given; room = room }) .room ≡ room
       go true o f = after (o .answer) (o .room) f
       go false o f = refl

@@ -38,7 +38,8 @@ pub record Taken (gs : List ℤ) (room room′ : List ℕ) (h : Held) : Type 0 w
   pub others : (v : ℕ) → 0 < v → (names v gs ≡ false) → value-at room′ v ≡ value-at room v
   pub true-in : True-in room′ gs
 
-pub taken : (n : ℕ) (gs : List ℤ) (room : List ℕ) → Distinct-below n gs → n ≤ suc (length room) → ((v : ℕ) → names v gs ≡ true → value-at room v ≡ 2)
+pub taken : (n : ℕ) (gs : List ℤ) (room : List ℕ) → Distinct-below n gs → n ≤ suc (length room)
+    → ((v : ℕ) → names v gs ≡ true → value-at room v ≡ 2)
     → (room′ : List ℕ) × Taken gs room room′ (given-rest gs room)
 unfolding given-rest
 taken n [] room d h f = (room, record { is = refl; long = refl; others = λ v p m. refl; true-in = tt })
@@ -56,7 +57,8 @@ taken n (g ∷ gs) room d h f =
         is = rw (q₁, q₂, q₃) (r .1 .is);
         long = r .1 .long ∙ e₁;
         others = λ v p m. r .1 .others v p (names-none v g gs m .1) ∙ away v p (names-none v g gs m .0);
-        true-in = (r .1 .others (named g) (d .0) (d .2) ∙ getD-set-same room (named g - 1) (wanted g) 2 (omega (arith, d .0, d .1)), r .1 .true-in);
+        true-in =
+            (r .1 .others (named g) (d .0) (d .2) ∙ getD-set-same room (named g - 1) (wanted g) 2 (omega (arith, d .0, d .1)), r .1 .true-in);
       },
     )
 

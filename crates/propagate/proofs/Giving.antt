@@ -107,7 +107,8 @@ unfolding all-unknown
 unknown-room [] e = refl
 unknown-room (b ∷ bs) e = go (eqb b 2) refl e (unknown-room bs)
   where
-    go : (t : Bool) → eqb b 2 ≡ t → t && all-unknown bs ≡ true → (all-unknown bs ≡ true → bs ≡ unknowns (length bs)) → b ∷ bs ≡ 2 ∷ unknowns (length bs)
+    go : (t : Bool) → eqb b 2 ≡ t → t && all-unknown bs ≡ true → (all-unknown bs ≡ true → bs ≡ unknowns (length bs))
+        → b ∷ bs ≡ 2 ∷ unknowns (length bs)
     go true q f r = ap₂ (λ (x : ℕ) (l : List ℕ). x ∷ l) (eqb-true b 2 q) (r f)
     go false q f r = absurd (false≢true f)
 
@@ -186,7 +187,8 @@ module _ (ws gs : List ℤ) (allowance : ℕ) (room : List ℕ) where
         call-read n e =
             parts a room₂ (call-is ∙ ap (λ (x : Propagated). settled room x room₂) e ∙ ap (λ (x : Propagated). record { answer = x; room = room₂ }) (sym e))
 
-        pub call-refused : (x : Refusal) → a ≡ Refused x → (r : List ℕ) → r ≡ unknowns (length room₂) → (a ≡ call .answer) × (r ≡ call .room)
+        pub call-refused : (x : Refusal) → a ≡ Refused x → (r : List ℕ) → r ≡ unknowns (length room₂)
+            → (a ≡ call .answer) × (r ≡ call .room)
         call-refused x e r er =
             parts a r
             (call-is ∙ ap (λ (y : Propagated). settled room y room₂) e ∙ ap₂ (λ (y : Propagated) (l : List ℕ). record { answer = y; room = l }) (sym e) (forgotten r room₂ er (long₂ ∙ long)))

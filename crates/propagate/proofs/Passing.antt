@@ -6,11 +6,12 @@ use Prim.Native.Nat.{ℕ, zero, suc, _+_, _-_, _≤_, _<_}
 use native.Mathlib.Numerals.{add-one}
 use native.Mathlib.Omega.{arith}
 use lib.Dec.{eqb, ltb}
-use lib.IntN.{ℤ, pos, negsuc}
+use lib.IntN.{ℤ, pos}
 use lib.ListN.{length, getD, take, drop, length-set, length-drop}
 use lib.Seq.{drop-cons, drop-length, drop-drop, take-all}
 use borrow.Author.Tests.{ltb-false}
-use Rattle.propagate.specs.Clause.{value-at, with-unknown, with-literal, unless-above, reading, reading-clause}
+use Rattle.cnf.specs.Words.{named}
+use Rattle.propagate.specs.Clause.{wanted, value-at, with-unknown, with-literal, closed-or, unless-above, reading, reading-clause}
 use Rattle.propagate.specs.Pass.{turn-of, room-of, on-or-stop, passed}
 use Rattle.propagate.specs.declared.Verdict.{Verdict}
 use Rattle.propagate.specs.declared.Verdict.the-variants.{AllFalse, Sets, Passes}
@@ -52,33 +53,32 @@ inside-more : (m n k : ℕ) (r : Reading) → n ≤ k → Read-inside m n r → 
 inside-more m n k Broken h i = tt
 inside-more m n k (Closed d j) h i = (i .0, omega arith)
 
-inside-unless : (m n v : ℕ) (later : Reading) → (v ≤ m → Read-inside m n later) → Read-inside m n (unless-above (ltb m v) later)
-inside-unless m n v later f = go (ltb m v) refl
+-- of a word that names the variable v
+inside-closed : (m n v : ℕ) (d : Verdict) (k : ℕ) (later : Reading) → Inside m d → k ≤ n → (0 < v → v ≤ m → Read-inside m n later)
+    → Read-inside m n (closed-or v (Closed d k) (unless-above (ltb m v) later))
+inside-closed m n zero d k later i h f = (i, h)
+inside-closed m n (suc v) d k later i h f = go (ltb m (suc v)) refl
   where
-    go : (b : Bool) → ltb m v ≡ b → Read-inside m n (unless-above b later)
+    go : (b : Bool) → ltb m (suc v) ≡ b → Read-inside m n (unless-above b later)
     go true e = tt
-    go false e = f (ltb-false m v e)
+    go false e = f (omega arith) (ltb-false m (suc v) e)
 
-inside-reading : (room : List ℕ) (d : Verdict) (n : ℕ) (ws : List ℤ) → Inside (length room) d → Read-inside (length room) (n + length ws) (reading room d n ws)
+inside-reading : (room : List ℕ) (d : Verdict) (n : ℕ) (ws : List ℤ) → Inside (length room) d
+    → Read-inside (length room) (n + length ws) (reading room d n ws)
 unfolding reading
 inside-reading room d n [] i = tt
-inside-reading room d n (pos zero ∷ ws) i = (i, omega arith)
-inside-reading room d n (pos (suc v) ∷ ws) i =
-    let e = with-literal d (suc v) 1 (value-at room (suc v)) in
-    inside-unless (length room) (n + suc (length ws)) (suc v) (reading room e (suc n) ws) (λ h.
+inside-reading room d n (w ∷ ws) i =
+    let e = with-literal d (named w) (wanted w) (value-at room (named w)) in
+    inside-closed (length room) (n + suc (length ws)) (named w) d (suc n) (reading room e (suc n) ws) i (omega arith) (λ p h.
     inside-more (length room) (suc n + length ws) (n + suc (length ws)) (reading room e (suc n) ws) (omega arith)
-    (inside-reading room e (suc n) ws (inside-literal (length room) (suc v) 1 (value-at room (suc v)) d (omega arith) h i)))
-inside-reading room d n (negsuc v ∷ ws) i =
-    let e = with-literal d (suc v) 0 (value-at room (suc v)) in
-    inside-unless (length room) (n + suc (length ws)) (suc v) (reading room e (suc n) ws) (λ h.
-    inside-more (length room) (suc n + length ws) (n + suc (length ws)) (reading room e (suc n) ws) (omega arith)
-    (inside-reading room e (suc n) ws (inside-literal (length room) (suc v) 0 (value-at room (suc v)) d (omega arith) h i)))
+    (inside-reading room e (suc n) ws (inside-literal (length room) (named w) (wanted w) (value-at room (named w)) d p h i)))
 
 pub inside : (room : List ℕ) (ws : List ℤ) → Read-inside (length room) (0 + length ws) (reading-clause room ws)
 inside room ws = inside-reading room AllFalse 0 ws tt
 
 -- of a reading as it is found
-pub sets-inside : (room : List ℕ) (ws : List ℤ) (r : Reading) (d : Verdict) (v value n : ℕ) → r ≡ reading-clause room ws → r ≡ Closed d n → d ≡ Sets v value → (0 < v) × (v ≤ length room)
+pub sets-inside : (room : List ℕ) (ws : List ℤ) (r : Reading) (d : Verdict) (v value n : ℕ) → r ≡ reading-clause room ws → r ≡ Closed d n
+    → d ≡ Sets v value → (0 < v) × (v ≤ length room)
 sets-inside room ws r d v value n e f g =
     let q : reading-clause room ws ≡ Closed (Sets v value) n = sym e ∙ f ∙ ap (λ (x : Verdict). Closed x n) g in
     subst (Read-inside (length room) (0 + length ws)) q (inside room ws) .0
@@ -166,7 +166,8 @@ module _ (ws : List ℤ) (allowance : ℕ) (came room : List ℕ) (at spent : �
         passing-long = ap length er ∙ length-room-of (reading-clause room part) room ∙ p .long
 
         pub passing-stops : (x : Refusal) → t ≡ Stop x → passed allowance 0 ws came ≡ record { answer = Refused x; room = room′ }
-        passing-stops x e = passing-turn ∙ ap (λ (u : Turn). on-or-stop u room′ (λ n. passed (allowance - (spent + 1)) (suc spent) (drop n (drop at ws)) room′)) e
+        passing-stops x e =
+            passing-turn ∙ ap (λ (u : Turn). on-or-stop u room′ (λ n. passed (allowance - (spent + 1)) (suc spent) (drop n (drop at ws)) room′)) e
 
         pub turn-fits : (n : ℕ) → t ≡ On n → at + n ≤ length ws
         turn-fits n e =

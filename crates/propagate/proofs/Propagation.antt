@@ -50,7 +50,8 @@ unfolding propagated
 call-reads ws gs allowance m k room₁ room₂ e f = rw (all-unknowns m, e, f)
 
 -- given literals stay true where their variables keep their values
-still-true : (hs : List ℤ) (room₁ room₂ : List ℕ) → ((v : ℕ) → names v hs ≡ true → value-at room₂ v ≡ value-at room₁ v) → True-in room₁ hs → True-in room₂ hs
+still-true : (hs : List ℤ) (room₁ room₂ : List ℕ) → ((v : ℕ) → names v hs ≡ true → value-at room₂ v ≡ value-at room₁ v) → True-in room₁ hs
+    → True-in room₂ hs
 still-true [] room₁ room₂ f t = tt
 still-true (g ∷ hs) room₁ room₂ f t =
     (f (named g) (names-first (named g) g hs refl) ∙ t .0, still-true hs room₁ room₂ (λ v m. f v (names-later v g hs m)) (t .1))
@@ -66,7 +67,8 @@ module _ (n : ℕ) (p : 0 < n) (gs : List ℤ) (d : Distinct-below n gs) where
   covered v u q = ⊎-elim (λ (m : names v gs ≡ true). m) (λ (l : n ≤ v). absurd (omega arith)) u
 
   -- behind the given literals the room knows an assignment below n
-  given-known : (room room₁ : List ℕ) (h : Held) → ((v : ℕ) → value-at room v ≡ 2) → Taken gs room room₁ h → Knows Used positive n (read-off room₁) room₁
+  given-known : (room room₁ : List ℕ) (h : Held) → ((v : ℕ) → value-at room v ≡ 2) → Taken gs room room₁ h
+      → Knows Used positive n (read-off room₁) room₁
   given-known room room₁ h f t = record {
     below = λ v u q. value-read-off room₁ v (given-value gs room₁ v (t .true-in) (covered v u q));
     above = λ v q. t .others v (omega arith) (not-true (names v gs) (λ m. omega (arith, names-below n gs v d m .1))) ∙ f v;
@@ -78,7 +80,8 @@ module _ (n : ℕ) (p : 0 < n) (gs : List ℤ) (d : Distinct-below n gs) where
 
   module _ (next : ℕ) (cs : List Clause) (e : Extends Used n next cs) where
     -- the room behind the pass is the assignment β, below the next free variable
-    promise : (room room₁ : List ℕ) (h : Held) → Taken gs room room₁ h → (β : Assignment) → Knows Used positive n β room₁ → satisfies β cs ≡ true
+    promise : (room room₁ : List ℕ) (h : Held) → Taken gs room room₁ h → (β : Assignment) → Knows Used positive n β room₁
+        → satisfies β cs ≡ true
         → (r : Set-to Used positive next β room₁ cs) → Sets-all n next cs gs room (record { answer = Read (length cs); room = r .room′ })
     promise room room₁ h t β k b r =
         let agree : Agree Used next (read-off (r .room′)) β = λ v u l. ap (λ (w : ℕ). eqb w 1) (r .knows .below v u l) ∙ eqb-byte (β v) in
@@ -97,7 +100,8 @@ module _ (n : ℕ) (p : 0 < n) (gs : List ℤ) (d : Distinct-below n gs) where
         eqb-byte true = refl
         eqb-byte false = refl
 
-    sets-unknowns : (allowance m : ℕ) → length cs ≤ allowance → next ≤ suc m → Sets-all n next cs gs (unknowns m) (propagated (words cs) gs allowance (unknowns m))
+    sets-unknowns : (allowance m : ℕ) → length cs ≤ allowance → next ≤ suc m
+        → Sets-all n next cs gs (unknowns m) (propagated (words cs) gs allowance (unknowns m))
     sets-unknowns allowance m ha hm =
         let t = taken n gs (unknowns m) d (omega (arith, e .grows, length-unknowns m)) (λ v _. value-unknowns m v) in
         let b = e .exists (read-off (t .0)) in

@@ -18,7 +18,8 @@ use Rattle.propagate.specs.declared.Reading.the-variants.{Broken, Closed
 
 -- ---- one word
 
-pub reading-closed : (room : List ℕ) (d : Verdict) (n : ℕ) (w : ℤ) (ws : List ℤ) → named w ≡ 0 → reading room d n (w ∷ ws) ≡ Closed d (suc n)
+pub reading-closed : (room : List ℕ) (d : Verdict) (n : ℕ) (w : ℤ) (ws : List ℤ) → named w ≡ 0
+    → reading room d n (w ∷ ws) ≡ Closed d (suc n)
 unfolding reading
 reading-closed room d n (pos zero) ws e = refl
 reading-closed room d n (pos (suc v)) ws e = absurd (omega arith)
@@ -75,7 +76,8 @@ module _ (room : List ℕ) (ws : List ℤ) (d : Verdict) (i : ℕ) (s : Scanning
       pub scanning-breaks : length room < v → reading-clause room ws ≡ Broken
       scanning-breaks l = next-word ∙ reading-above room d i w (drop (suc i) ws) (omega arith)
 
-      pub scanning-on : (wants : ℕ) → wants ≡ wanted w → (v ≡ 0 → ⊥) → v ≤ length room → (d′ : Verdict) → d′ ≡ with-literal d v wants (getD room (v - 1) 0) → Scanning room ws d′ (i + 1)
+      pub scanning-on : (wants : ℕ) → wants ≡ wanted w → (v ≡ 0 → ⊥) → v ≤ length room → (d′ : Verdict)
+          → d′ ≡ with-literal d v wants (getD room (v - 1) 0) → Scanning room ws d′ (i + 1)
       scanning-on wants ew f l d′ ed =
           let k = with-literal d (named w) (wanted w) (value-at room (named w)) in
           let ek : d′ ≡ k = ed ∙ ap (with-literal d v wants) (getD-inside room (v - 1) 0 2 (omega (arith, f)))

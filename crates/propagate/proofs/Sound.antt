@@ -20,7 +20,7 @@ use Rattle.cnf.specs.Words.{named, clauses-from, clauses-of, satisfies-words}
 use Rattle.cnf.proofs.Extend.{and-left, and-right, or-true}
 use Rattle.propagate.specs.Clause.{byte, wanted, value-at, with-unknown, with-literal, unless-above, reading, reading-clause}
 use Rattle.propagate.specs.Pass.{turn-of, room-of, Outcome, on-or-stop, passed, all-unknown, not-given, given-rest, settled, propagated, propagated-number}
-use Rattle.propagate.specs.Promise.{Given-true, Agrees}
+use Rattle.propagate.specs.Promise.{read-off, Given-true, Agrees}
 use Rattle.propagate.specs.declared.Verdict.{Verdict}
 use Rattle.propagate.specs.declared.Verdict.the-variants.{AllFalse, Sets, Passes}
 use Rattle.propagate.specs.declared.Reading.{Reading}
@@ -28,9 +28,10 @@ use Rattle.propagate.specs.declared.Reading.the-variants.{Broken, Closed
 use Rattle.line.specs.declared.Refusal.the-variants.{Given}
 use Rattle.propagate.specs.declared.Propagated.{Propagated}
 use Rattle.propagate.specs.declared.Propagated.the-variants.{Read, Refused}
+use Rattle.propagate.proofs.Literals.{value-of-true, wanted-true}
 use Rattle.propagate.proofs.Passing.{Read-inside, inside}
 use Rattle.propagate.proofs.Giving.{unknown-room}
-use Rattle.propagate.proofs.GivenKnown.{value-unknowns}
+use Rattle.propagate.proofs.GivenKnown.{value-unknowns, value-read-off}
 use Rattle.propagate.proofs.Exact.{takes}
 
 -- ---- a verdict under an assignment α that has the room's values
@@ -58,10 +59,7 @@ lit : ℕ → Bool → Literal
 lit v s = record { variable = v; negated = s }
 
 true-wants : (s b : Bool) → flips s b ≡ true → byte b ≡ byte (not s)
-true-wants true true e = absurd (false≢true e)
-true-wants true false e = refl
-true-wants false true e = refl
-true-wants false false e = absurd (false≢true e)
+true-wants s b e = ap byte (sym (value-of-true s b e))
 
 false-wants : (s b : Bool) → (byte b ≡ byte (not s) → ⊥) → flips s b ≡ false
 false-wants true true f = refl
@@ -96,7 +94,8 @@ module _ (α : Assignment) (room : List ℕ) (a : Agrees α room) (v : ℕ) (p :
       go false y ex ey = tt
   means-unknown Passes c m = tt
 
-  means-literal : (d : Verdict) (c : Clause) → Means α d c → Means α (with-literal d v (byte (not s)) (value-at room v)) (c ++ (lit v s ∷ []))
+  means-literal : (d : Verdict) (c : Clause) → Means α d c
+      → Means α (with-literal d v (byte (not s)) (value-at room v)) (c ++ (lit v s ∷ []))
   unfolding with-literal Means
   means-literal d c m = go (eqb (value-at room v) (byte (not s))) refl (ltb (value-at room v) 2) refl
     where
@@ -132,7 +131,8 @@ unless-closed m v later d k e = go (ltb m v) e
     go true f = absurd (let z : _≡_ {A = ℕ} 0 1 = cc in omega arith)
     go false f = f
 
-first : (α : Assignment) (room : List ℕ) → Agrees α room → (d₀ : Verdict) (c : Clause) (j : ℕ) (ws : List ℤ) (d : Verdict) (k : ℕ) → Means α d₀ c → reading room d₀ j ws ≡ Closed d k → First α c ws j d k
+first : (α : Assignment) (room : List ℕ) → Agrees α room → (d₀ : Verdict) (c : Clause) (j : ℕ) (ws : List ℤ) (d : Verdict) (k : ℕ)
+    → Means α d₀ c → reading room d₀ j ws ≡ Closed d k → First α c ws j d k
 unfolding reading clauses-from lit
 first α room a d₀ c j [] d k m e = absurd (let z : _≡_ {A = ℕ} 0 1 = cc in omega arith)
 first α room a d₀ c j (pos zero ∷ ws) d k m e =
@@ -143,12 +143,26 @@ first α room a d₀ c j (pos (suc v) ∷ ws) d k m e =
     let l : Literal = lit (suc v) false in
     let r = first α room a (with-literal d₀ (suc v) 1 (value-at room (suc v))) (c ++ (l ∷ [])) (suc j) ws d k (means-literal α room a (suc v) (omega arith) false d₀ c m)
     (unless-closed (length room) (suc v) (reading room (with-literal d₀ (suc v) 1 (value-at room (suc v))) (suc j) ws) d k e) in
-    record { clause = r .clause; taken = suc (r .taken); words-are = r .words-are ∙ omega arith; clauses-are = r .clauses-are; means = r .means }
+    record {
+      clause =
+          r .clause;
+      taken = suc (r .taken);
+      words-are = r .words-are ∙ omega arith;
+      clauses-are = r .clauses-are;
+      means = r .means;
+    }
 first α room a d₀ c j (negsuc v ∷ ws) d k m e =
     let l : Literal = lit (suc v) true in
     let r = first α room a (with-literal d₀ (suc v) 0 (value-at room (suc v))) (c ++ (l ∷ [])) (suc j) ws d k (means-literal α room a (suc v) (omega arith) true d₀ c m)
     (unless-closed (length room) (suc v) (reading room (with-literal d₀ (suc v) 0 (value-at room (suc v))) (suc j) ws) d k e) in
-    record { clause = r .clause; taken = suc (r .taken); words-are = r .words-are ∙ omega arith; clauses-are = r .clauses-are; means = r .means }
+    record {
+      clause =
+          r .clause;
+      taken = suc (r .taken);
+      words-are = r .words-are ∙ omega arith;
+      clauses-are = r .clauses-are;
+      means = r .means;
+    }
 
 -- the clause that was read in front of the others
 first-of : (α : Assignment) (room : List ℕ) (ws : List ℤ) (d : Verdict) (k : ℕ) → Agrees α room → reading-clause room ws ≡ Closed d k
@@ -161,7 +175,8 @@ first-of α room ws d k a e =
 
 -- ---- setting what is so
 
-agrees-set : (α : Assignment) (room : List ℕ) (v b : ℕ) → Agrees α room → byte (α v) ≡ b → 0 < v → v ≤ length room → Agrees α (set room (v - 1) b)
+agrees-set : (α : Assignment) (room : List ℕ) (v b : ℕ) → Agrees α room → byte (α v) ≡ b → 0 < v → v ≤ length room
+    → Agrees α (set room (v - 1) b)
 agrees-set α room v b a e p l u q h =
     elim (ℕ-discrete u v) [
       | yes f ↦ ap (value-at (set room (v - 1) b)) f ∙ getD-set-same room (v - 1) b 2 (omega arith) ∙ sym e ∙ ap (λ (w : ℕ). byte (α w)) (sym f)
@@ -172,7 +187,8 @@ pub record Sound (α : Assignment) (o : Outcome) : Type 0 where
   pub agrees : Agrees α (o .room)
   pub no-conflict : propagated-number (o .answer) ≡ 22 → ⊥
 
-pass-sound : (α : Assignment) (allowance count : ℕ) (ws : List ℤ) (room : List ℕ) → Agrees α room → satisfies α (clauses-of ws) ≡ true → Sound α (passed allowance count ws room)
+pass-sound : (α : Assignment) (allowance count : ℕ) (ws : List ℤ) (room : List ℕ) → Agrees α room → satisfies α (clauses-of ws) ≡ true
+    → Sound α (passed allowance count ws room)
 unfolding passed
 pass-sound α zero count [] room a t = record { agrees = a; no-conflict = λ e. omega arith }
 pass-sound α zero count (w ∷ ws) room a t = record { agrees = a; no-conflict = λ e. omega arith }
@@ -181,7 +197,8 @@ pass-sound α (suc allowance) count (w ∷ ws) room a t =
     go (reading-clause room (w ∷ ws)) refl (inside room (w ∷ ws)) (λ n r. pass-sound α allowance (suc count) (drop n (w ∷ ws)) r)
   where
     -- the clause holds, and the clauses behind it do
-    holds-first : (d : Verdict) (n : ℕ) → reading-clause room (w ∷ ws) ≡ Closed d n → (c : Clause) × (holds α c ≡ true) × Means α d c × (satisfies α (clauses-of (drop n (w ∷ ws))) ≡ true)
+    holds-first : (d : Verdict) (n : ℕ) → reading-clause room (w ∷ ws) ≡ Closed d n
+        → (c : Clause) × (holds α c ≡ true) × Means α d c × (satisfies α (clauses-of (drop n (w ∷ ws))) ≡ true)
     holds-first d n e =
         let f = first-of α room (w ∷ ws) d n a e in
         let q : holds α (f .0) && satisfies α (clauses-of (drop n (w ∷ ws))) ≡ true = sym (ap (satisfies α) (f .1)) ∙ t in
@@ -203,10 +220,11 @@ unfolding given-rest
 given-sound α [] room a t = a
 given-sound α (g ∷ gs) room a t = go (not-given g room) refl (λ b. given-sound α gs (set room (named g - 1) (wanted g)) b (t .1))
   where
-    go : (b : Bool) → not-given g room ≡ b → (Agrees α (set room (named g - 1) (wanted g)) → Agrees α (given-rest gs (set room (named g - 1) (wanted g)) .room))
+    go : (b : Bool) → not-given g room ≡ b
+        → (Agrees α (set room (named g - 1) (wanted g)) → Agrees α (given-rest gs (set room (named g - 1) (wanted g)) .room))
         → Agrees α (cond b (record { held = false; room = room }) (given-rest gs (set room (named g - 1) (wanted g))) .room)
     go true e f = a
-    go false e f = let k = takes g room e in f (agrees-set α room (named g) (wanted g) a (t .0) (k .some) (k .inside))
+    go false e f = let k = takes g room e in f (agrees-set α room (named g) (wanted g) a (wanted-true α g (t .0)) (k .some) (k .inside))
 
 settled-sound : (α : Assignment) (came : List ℕ) (o : Outcome) → Agrees α came → Sound α o → Sound α (settled came (o .answer) (o .room))
 settled-sound α came o a s = go (o .answer) (s .no-conflict)
@@ -215,7 +233,8 @@ settled-sound α came o a s = go (o .answer) (s .no-conflict)
     go (Read n) f = record { agrees = s .agrees; no-conflict = f }
     go (Refused x) f = record { agrees = a; no-conflict = f }
 
-pub sound : (ws gs : List ℤ) (allowance : ℕ) (room : List ℕ) → all-unknown room ≡ true → (α : Assignment) → Given-true α gs → satisfies-words α ws ≡ true → Sound α (propagated ws gs allowance room)
+pub sound : (ws gs : List ℤ) (allowance : ℕ) (room : List ℕ) → all-unknown room ≡ true → (α : Assignment) → Given-true α gs
+    → satisfies-words α ws ≡ true → Sound α (propagated ws gs allowance room)
 unfolding propagated
 sound ws gs allowance room u α t h =
     let e = unknown-room room u in
@@ -229,21 +248,8 @@ sound ws gs allowance room u α t h =
 
 -- ---- the count
 
-reading-count : (room : List ℕ) (d₀ : Verdict) (c : Clause) (j : ℕ) (ws : List ℤ) (d : Verdict) (k : ℕ) → reading room d₀ j ws ≡ Closed d k
-    → (i : ℕ) × (k ≡ j + suc i) × (length (clauses-from c ws) ≡ suc (length (clauses-of (drop (suc i) ws))))
-unfolding reading clauses-from
-reading-count room d₀ c j [] d k e = absurd (let z : _≡_ {A = ℕ} 0 1 = cc in omega arith)
-reading-count room d₀ c j (pos zero ∷ ws) d k e = let f : suc j ≡ k = cc in (0, omega arith, refl)
-reading-count room d₀ c j (pos (suc v) ∷ ws) d k e =
-    let l = with-literal d₀ (suc v) 1 (value-at room (suc v)) in
-    let r = reading-count room l (c ++ (record { variable = suc v; negated = false } ∷ [])) (suc j) ws d k (unless-closed (length room) (suc v) (reading room l (suc j) ws) d k e) in
-    (suc (r .0), r .1 ∙ omega arith, r .2)
-reading-count room d₀ c j (negsuc v ∷ ws) d k e =
-    let l = with-literal d₀ (suc v) 0 (value-at room (suc v)) in
-    let r = reading-count room l (c ++ (record { variable = suc v; negated = true } ∷ [])) (suc j) ws d k (unless-closed (length room) (suc v) (reading room l (suc j) ws) d k e) in
-    (suc (r .0), r .1 ∙ omega arith, r .2)
-
-pass-count : (allowance count : ℕ) (ws : List ℤ) (room : List ℕ) (n : ℕ) → passed allowance count ws room .answer ≡ Read n → n ≡ count + length (clauses-of ws)
+pass-count : (allowance count : ℕ) (ws : List ℤ) (room : List ℕ) (n : ℕ) → passed allowance count ws room .answer ≡ Read n
+    → n ≡ count + length (clauses-of ws)
 unfolding passed clauses-from
 pass-count zero count [] room n e = let f : count ≡ n = cc in omega arith
 pass-count zero count (w ∷ ws) room n e = absurd (let z : _≡_ {A = ℕ} 0 1 = cc in omega arith)
@@ -251,21 +257,23 @@ pass-count (suc allowance) count [] room n e = let f : count ≡ n = cc in omega
 pass-count (suc allowance) count (w ∷ ws) room n e =
     go (reading-clause room (w ∷ ws)) refl (λ k l. pass-count allowance (suc count) (drop k (w ∷ ws)) l n) e
   where
-    counted : (d : Verdict) (k : ℕ) → reading-clause room (w ∷ ws) ≡ Closed d k → n ≡ suc count + length (clauses-of (drop k (w ∷ ws))) → n ≡ count + length (clauses-of (w ∷ ws))
+    counted : (d : Verdict) (k : ℕ) → reading-clause room (w ∷ ws) ≡ Closed d k → n ≡ suc count + length (clauses-of (drop k (w ∷ ws)))
+        → n ≡ count + length (clauses-of (w ∷ ws))
     counted d k q f =
-        let r = reading-count room AllFalse [] 0 (w ∷ ws) d k q in
-        let g : k ≡ suc (r .0) = r .1 ∙ omega arith in
-        omega (arith, f, r .2, ap (λ (i : ℕ). length (clauses-of (drop i (w ∷ ws)))) g)
+        let r = first-of (read-off room) room (w ∷ ws) d k (λ v p h. value-read-off room v (omega arith)) q in
+        omega (arith, f, ap length (r .1))
 
     go : (r : Reading) → reading-clause room (w ∷ ws) ≡ r
         → ((k : ℕ) (l : List ℕ) → passed allowance (suc count) (drop k (w ∷ ws)) l .answer ≡ Read n → n ≡ suc count + length (clauses-of (drop k (w ∷ ws))))
-        → on-or-stop (turn-of r) (room-of r room) (λ k. passed allowance (suc count) (drop k (w ∷ ws)) (room-of r room)) .answer ≡ Read n → n ≡ count + length (clauses-of (w ∷ ws))
+        → on-or-stop (turn-of r) (room-of r room) (λ k. passed allowance (suc count) (drop k (w ∷ ws)) (room-of r room)) .answer ≡ Read n
+        → n ≡ count + length (clauses-of (w ∷ ws))
     go Broken q f h = absurd (let z : _≡_ {A = ℕ} 0 1 = cc in omega arith)
     go (Closed AllFalse k) q f h = absurd (let z : _≡_ {A = ℕ} 0 1 = cc in omega arith)
     go (Closed (Sets v b) k) q f h = counted (Sets v b) k q (f k (set room (v - 1) b) h)
     go (Closed Passes k) q f h = counted Passes k q (f k room h)
 
-pub count-read : (ws gs : List ℤ) (allowance : ℕ) (room : List ℕ) (n : ℕ) → propagated ws gs allowance room .answer ≡ Read n → n ≡ length (clauses-of ws)
+pub count-read : (ws gs : List ℤ) (allowance : ℕ) (room : List ℕ) (n : ℕ) → propagated ws gs allowance room .answer ≡ Read n
+    → n ≡ length (clauses-of ws)
 unfolding propagated
 count-read ws gs allowance room n e =
     go (all-unknown room && given-rest gs room .held) e
@@ -277,6 +285,7 @@ count-read ws gs allowance room n e =
     after (Read k) q f = pass-count allowance 0 ws (given-rest gs room .room) n (q ∙ f) ∙ omega arith
     after (Refused x) q f = absurd (let z : _≡_ {A = ℕ} 0 1 = cc in omega arith)
 
-    go : (b : Bool) → cond b (settled room (o .answer) (o .room)) (record { answer = Refused Given; room = room }) .answer ≡ Read n → n ≡ length (clauses-of ws)
+    go : (b : Bool) → cond b (settled room (o .answer) (o .room)) (record { answer = Refused Given; room = room }) .answer ≡ Read n
+        → n ≡ length (clauses-of ws)
     go true f = after (o .answer) refl f
     go false f = absurd (let z : _≡_ {A = ℕ} 0 1 = cc in omega arith)

@@ -57,12 +57,14 @@ reading-words room d n (l ∷ c) ws i =
 -- ---- clauses in a row: the pass goes over them and leaves another room
 
 abbrev pub Passes-over : List ℕ → List Clause → List ℕ → Type 0
-Passes-over room cs room′ = (allowance count : ℕ) (ws : List ℤ) → passed (length cs + allowance) count (words cs ++ ws) room ≡ passed allowance (count + length cs) ws room′
+Passes-over room cs room′ =
+    (allowance count : ℕ) (ws : List ℤ) → passed (length cs + allowance) count (words cs ++ ws) room ≡ passed allowance (count + length cs) ws room′
 
 pub over-none : (room : List ℕ) → Passes-over room [] room
 over-none room allowance count ws = ap₂ (λ (a n : ℕ). passed a n ws room) (zero-add allowance) (sym (add-zero count))
 
-pub over-append : (room room′ room″ : List ℕ) (cs ds : List Clause) → Passes-over room cs room′ → Passes-over room′ ds room″ → Passes-over room (cs ++ ds) room″
+pub over-append : (room room′ room″ : List ℕ) (cs ds : List Clause) → Passes-over room cs room′ → Passes-over room′ ds room″
+    → Passes-over room (cs ++ ds) room″
 over-append room room′ room″ cs ds p q allowance count ws =
     let e : length (cs ++ ds) + allowance ≡ length cs + (length ds + allowance) = omega (arith, length-append cs ds) in
     let f : count + length cs + length ds ≡ count + length (cs ++ ds) = omega (arith, length-append cs ds) in
@@ -106,7 +108,8 @@ module _ (room : List ℕ) (c : Clause) (cs : List Clause) (room′ : List ℕ) 
   over-passed e p allowance count ws = over-clause Passes e allowance count ws ∙ rest-of room p allowance count ws
 
   -- that sets a variable
-  pub over-set : (v value : ℕ) → verdict room AllFalse c ≡ Sets v value → Passes-over (set room (v - 1) value) cs room′ → Passes-over room (c ∷ cs) room′
+  pub over-set : (v value : ℕ) → verdict room AllFalse c ≡ Sets v value → Passes-over (set room (v - 1) value) cs room′
+      → Passes-over room (c ∷ cs) room′
   over-set v value e p allowance count ws = over-clause (Sets v value) e allowance count ws ∙ rest-of (set room (v - 1) value) p allowance count ws
 
 -- ---- known and unknown literals

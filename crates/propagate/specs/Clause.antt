@@ -5,6 +5,7 @@ use mathlib.Core.List.{List, [], _∷_}
 use lib.Dec.{eqb, ltb}
 use lib.IntN.{ℤ, pos, negsuc}
 use lib.ListN.{length, getD}
+use Rattle.cnf.specs.Words.{named}
 use Rattle.propagate.specs.declared.Verdict.{Verdict}
 use Rattle.propagate.specs.declared.Verdict.the-variants.{AllFalse, Sets, Passes}
 use Rattle.propagate.specs.declared.Reading.{Reading}
@@ -37,17 +38,20 @@ with-literal d v wants value = cond (eqb value wants) Passes (cond (ltb value 2)
 
 -- ---- the first clause of words: its verdict and how many words it has; none where they end inside it or a variable is above the room
 
+-- by the variable that a word names: the word 0 closes the clause
+abbrev pub closed-or : ℕ → Reading → Reading → Reading
+closed-or zero closed later = closed
+closed-or (suc v) closed later = later
+
 abbrev pub unless-above : Bool → Reading → Reading
 unless-above true later = Broken
 unless-above false later = later
 
 unfoldable pub reading : List ℕ → Verdict → ℕ → List ℤ → Reading
 reading room d n [] = Broken
-reading room d n (pos zero ∷ ws) = Closed d (suc n)
-reading room d n (pos (suc v) ∷ ws) =
-    unless-above (ltb (length room) (suc v)) (reading room (with-literal d (suc v) 1 (value-at room (suc v))) (suc n) ws)
-reading room d n (negsuc v ∷ ws) =
-    unless-above (ltb (length room) (suc v)) (reading room (with-literal d (suc v) 0 (value-at room (suc v))) (suc n) ws)
+reading room d n (w ∷ ws) =
+    closed-or (named w) (Closed d (suc n))
+    (unless-above (ltb (length room) (named w)) (reading room (with-literal d (named w) (wanted w) (value-at room (named w))) (suc n) ws))
 
 abbrev pub reading-clause : List ℕ → List ℤ → Reading
 reading-clause room ws = reading room AllFalse 0 ws

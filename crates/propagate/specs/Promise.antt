@@ -1,4 +1,4 @@
--- What the engine's answers are to mean: for clauses that open variables step by step, and for any words.
+-- What the answers of a pass are to mean: for clauses that open variables step by step, and for any words.
 use Prim.Native.Nat.{ℕ, _≤_, _<_}
 use mathlib.Core.Path.{_≡_}
 use mathlib.Core.Logic.{_⊎_}
@@ -7,8 +7,8 @@ use mathlib.Core.List.{List, [], _∷_}
 use lib.Dec.{eqb}
 use lib.IntN.{ℤ}
 use lib.ListN.{length}
-use Rattle.cnf.specs.Clause.{Clause, Assignment, satisfies}
-use Rattle.cnf.specs.Words.{named, names}
+use Rattle.cnf.specs.Clause.{Clause, Assignment, value, satisfies}
+use Rattle.cnf.specs.Words.{named, names, literal-of-word}
 use Rattle.propagate.specs.Clause.{wanted, byte, value-at}
 use Rattle.propagate.specs.Pass.{Outcome}
 use Rattle.propagate.specs.declared.Propagated.the-variants.{Read}
@@ -38,12 +38,12 @@ pub record Sets-all (n next : ℕ) (cs : List Clause) (given : List ℤ) (room :
   pub rest : (v : ℕ) → next ≤ v → value-at (o .room) v ≡ 2
   pub satisfied : satisfies (read-off (o .room)) cs ≡ true
 
--- ---- any words: what the engine says follows from the clauses and the given literals
+-- ---- any words: what a pass says follows from the clauses and the given literals
 
 -- the given literals are true in α
 abbrev pub Given-true : Assignment → List ℤ → Type 0
 Given-true α [] = Unit {0}
-Given-true α (g ∷ gs) = (byte (α (named g)) ≡ wanted g) × Given-true α gs
+Given-true α (g ∷ gs) = (value α (literal-of-word g) ≡ true) × Given-true α gs
 
 -- every value in the room is α's
 abbrev pub Agrees : Assignment → List ℕ → Type 0

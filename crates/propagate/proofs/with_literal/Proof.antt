@@ -10,7 +10,8 @@ returns : tie.Need-returns
 returns c = let a = c .before .args in with-true (a .sofar) (a .variable) (a .wanted) (a .value) (c .if1 .taken)
 
 returns-2 : tie.Need-returns-2
-returns-2 c = let a = c .before .before .args in with-false (a .sofar) (a .variable) (a .wanted) (a .value) (c .before .if1 .left) (c .if2 .taken)
+returns-2 c =
+    let a = c .before .before .args in with-false (a .sofar) (a .variable) (a .wanted) (a .value) (c .before .if1 .left) (c .if2 .taken)
 
 returns-3 : tie.Need-returns-3
 returns-3 c =
