@@ -215,6 +215,9 @@ fn written() -> Vec<String> {
         }
         rows.push(written_row(c, w, &recipe, bits - 1, clauses));
     }
+    let five = edges::lines(&edges::THREE_FIVE);
+    let (bits, clauses) = write_lengths(5, 1, &five);
+    rows.push(written_row(5, 1, &five, bits, clauses));
     let refused = [(0, 0, 3), (65_536, 3, 3), (3, 0, 5), (3, 17, 5), (3, 4_294_967_295, 3), (5, 2, 3), (3, 2, 3)];
     rows.extend(refused.map(|(c, w, planned)| written_row(c, w, &recipe_for(planned), 3, 51)));
     rows.push(written_row(3, 2, &damaged(3, 0), 3, 51));

@@ -7,6 +7,11 @@ use std::sync::OnceLock;
 /// Inputs of a column: left term, right term, carry.
 const INPUTS: usize = 3;
 
+/// A bit's values in the rows of a truth table, over a variable for each input.
+type Rows = u8;
+/// The values of these variables: every row has others.
+const VALUES: [Rows; INPUTS] = [0b0000_1111, 0b0011_0011, 0b0101_0101];
+
 /// The clauses written so far and the variables opened so far.
 #[derive(Debug)]
 pub struct Clauses {
@@ -57,24 +62,56 @@ impl Output {
         }
     }
 
-    /// The output as a bit, opening a variable only for two or more unfixed
-    /// inputs; fewer leave nothing but 0, 1 or the one literal either way.
-    fn bit(self, unfixed: &[i32], f: usize, clauses: &mut Clauses) -> Bit {
+    /// The output's values where the inputs have these.
+    fn rows(self, inputs: [Rows; INPUTS]) -> Rows {
         let truth = self.truth();
-        match unfixed {
-            [] => Bit::Fixed(truth(f)),
-            [literal] => match (truth(f), truth(f + 1)) {
-                (false, true) => Bit::Literal(*literal),
-                (true, false) => Bit::Literal(-literal),
-                (same, _) => Bit::Fixed(same),
-            },
-            several => {
-                clauses.highest += 1;
-                let literals = [several, &[clauses.highest]].concat();
-                for pattern in self.patterns(several.len(), f) {
-                    clauses.push(pattern, &literals);
-                }
-                Bit::Literal(clauses.highest)
+        let total = |row: &u32| inputs.iter().filter(|rows| *rows >> row & 1 == 1).count();
+        (0..Rows::BITS).filter(|row| truth(total(row))).fold(0, |rows, row| rows | 1 << row)
+    }
+
+    /// The bit that has the output's rows, if there is one: 0, 1, an input or
+    /// its negation. There is one where at most one input is unfixed, and where
+    /// two name one variable, since these add up to twice a literal or to 1. No
+    /// bit has the rows of a sum or carry of two or three variables.
+    fn agreeing(self, inputs: &[Bit; INPUTS]) -> Option<Bit> {
+        let wanted = self.rows(inputs.map(|input| rows_among(inputs, input)));
+        let literals = inputs.iter().flat_map(|input| [*input, input.negated()]);
+        let mut bits = [false, true].map(Bit::Fixed).into_iter().chain(literals);
+        bits.find(|bit| rows_among(inputs, *bit) == wanted)
+    }
+
+    /// A new variable that its clauses make equal to the output.
+    fn opened(self, inputs: &[Bit; INPUTS], clauses: &mut Clauses) -> Bit {
+        let (fixed, unfixed): (Vec<Bit>, Vec<Bit>) = inputs.iter().partition(|bit| matches!(bit, Bit::Fixed(_)));
+        let f = fixed.iter().filter(|bit| **bit == Bit::Fixed(true)).count();
+        clauses.highest += 1;
+        let literals: Vec<i32> = unfixed.iter().map(|bit| bit.stored()).chain([clauses.highest]).collect();
+        for pattern in self.patterns(unfixed.len(), f) {
+            clauses.push(pattern, &literals);
+        }
+        Bit::Literal(clauses.highest)
+    }
+
+    /// The output as a bit, opening a variable only where no bit agrees.
+    fn bit(self, inputs: &[Bit; INPUTS], clauses: &mut Clauses) -> Bit {
+        self.agreeing(inputs).unwrap_or_else(|| self.opened(inputs, clauses))
+    }
+}
+
+/// The rows of a bit that is fixed, an input or the negation of one. Inputs of
+/// one variable get the rows of the first of them, as they are or negated, so
+/// that the table has no row in which they contradict each other.
+fn rows_among(inputs: &[Bit; INPUTS], bit: Bit) -> Rows {
+    match bit {
+        Bit::Fixed(false) => 0,
+        Bit::Fixed(true) => Rows::MAX,
+        literal => {
+            let named = |input: &Bit| [literal, literal.negated()].contains(input);
+            let first = inputs.iter().position(named).expect("the bit is of an input's variable");
+            if inputs[first] == literal {
+                VALUES[first]
+            } else {
+                !VALUES[first]
             }
         }
     }
@@ -82,10 +119,52 @@ impl Output {
 
 /// Sum and carry of a column; the last column has no carry.
 pub fn column(inputs: [Bit; INPUTS], last: bool, clauses: &mut Clauses) -> (Bit, Option<Bit>) {
-    let (fixed, unfixed): (Vec<Bit>, Vec<Bit>) = inputs.iter().partition(|bit| matches!(bit, Bit::Fixed(_)));
-    let f = fixed.iter().filter(|bit| **bit == Bit::Fixed(true)).count();
-    let unfixed: Vec<i32> = unfixed.into_iter().map(Bit::stored).collect();
-    let sum = Output::Sum.bit(&unfixed, f, clauses);
-    let carry = (!last).then(|| Output::Carry.bit(&unfixed, f, clauses));
+    let sum = Output::Sum.bit(&inputs, clauses);
+    let carry = (!last).then(|| Output::Carry.bit(&inputs, clauses));
     (sum, carry)
+}
+
+#[cfg(test)]
+mod tests {
+    use super::*;
+    use crate::bit::ZERO;
+
+    const P: Bit = Bit::Literal(4);
+    const Q: Bit = Bit::Literal(-7);
+    const ONE: Bit = Bit::Fixed(true);
+
+    /// Where inputs name one variable nothing is opened, whatever the third is.
+    fn assert_pair(inputs: [Bit; INPUTS], sum: Bit, carry: Bit) {
+        let mut clauses = Clauses::above(9);
+        assert_eq!(column(inputs, false, &mut clauses), (sum, Some(carry)), "{inputs:?}");
+        assert_eq!(column(inputs, true, &mut clauses), (sum, None), "{inputs:?}");
+        assert_eq!((clauses.words.len(), clauses.count, clauses.highest), (0, 0, 9), "{inputs:?}");
+    }
+
+    #[test]
+    fn pairs_at_every_place_beside_every_rest() {
+        for rest in [ZERO, ONE, Q, Q.negated(), P, P.negated()] {
+            for pair in [P, P.negated()] {
+                for place in 0..INPUTS {
+                    let among = |a: Bit, b: Bit| {
+                        let mut inputs = vec![a, b];
+                        inputs.insert(place, rest);
+                        [inputs[0], inputs[1], inputs[2]]
+                    };
+                    assert_pair(among(pair, pair), rest, pair);
+                    assert_pair(among(pair, pair.negated()), rest.negated(), rest);
+                }
+            }
+        }
+    }
+
+    #[test]
+    fn two_variables_open_a_sum_and_a_carry() {
+        for inputs in [[P, Q, ZERO], [ONE, P, Q], [P, ONE, Q.negated()], [P, Q, Bit::Literal(1)]] {
+            let mut clauses = Clauses::above(9);
+            let opened = (Bit::Literal(10), Some(Bit::Literal(11)));
+            assert_eq!(column(inputs, false, &mut clauses), opened, "{inputs:?}");
+            assert_eq!(column(inputs, true, &mut clauses), (Bit::Literal(12), None), "{inputs:?}");
+        }
+    }
 }

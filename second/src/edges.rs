@@ -1,6 +1,6 @@
-//! Calls of writing over given literals, by hand: what succeeds, the edges of
-//! refusals 14 and 15, and their place among the others. They are small, since
-//! the proofs compute them too.
+//! Calls of writing over given literals, by hand: what succeeds, columns with
+//! two inputs of one variable, the edges of refusals 14 and 15, and their place
+//! among the others. They are small, since the proofs compute them too.
 
 use crate::line::Line;
 use crate::{write, write_plain, Counts};
@@ -59,8 +59,11 @@ const LARGEST: i32 = i32::MAX;
 type Fields = (u64, usize, u32, usize, u64);
 const THREE: Fields = (1, 0, 1, 0, 3);
 const FIVE: Fields = (1, 0, 2, 0, 5);
+const SEVEN: Fields = (2, 0, 3, 0, 7);
+/// Document 01's other recipe for 5. At width 1 it opens nothing.
+pub const THREE_FIVE: [Fields; 2] = [THREE, (2, 1, 1, 0, 5)];
 
-fn lines(fields: &[Fields]) -> Vec<u8> {
+pub fn lines(fields: &[Fields]) -> Vec<u8> {
     let bytes = |&(kind, left, s, right, claimed): &Fields| Line { top: 0, kind, left, s, right, claimed }.pack();
     fields.iter().flat_map(bytes).collect()
 }
@@ -80,11 +83,10 @@ pub const PAIRS: usize = 4;
 
 /// All of them.
 pub fn calls() -> Vec<Call> {
-    [successes(), literals(), pairs(PAIRS), variables(), order()].concat()
+    [successes(), shared(), literals(), pairs(PAIRS), variables(), order()].concat()
 }
 
 fn successes() -> Vec<Call> {
-    let five = lines(&[THREE, (2, 1, 1, 0, 5)]);
     let fifty_nine = lines(&[(2, 0, 6, 0, 63), (3, 1, 2, 0, 59)]);
     vec![
         three(&[1, 2], 3),
@@ -92,9 +94,34 @@ fn successes() -> Vec<Call> {
         three(&[-77, 5], 1_000_000),
         Call::exact(6, &[-3, -900_000], 900_001, &lines(&[THREE])),
         Call::exact(5, &[-2, 1], 3, &lines(&[FIVE])),
-        Call::exact(7, &[-4], 9, &lines(&[(2, 0, 3, 0, 7)])),
-        Call::exact(5, &[-2_147_483_644], END - 3, &five),
+        Call::exact(7, &[-4], 9, &lines(&[SEVEN])),
+        Call::exact(5, &[-LARGEST], END, &lines(&THREE_FIVE)),
         Call::exact(59, &[3, -1], 4, &fifty_nine),
+    ]
+}
+
+/// 15 as 5 * 4 - 5 at width 2. It would need more words if two inputs of one
+/// variable counted as two.
+fn fifteen(x: &[i32], first: u32) -> Call {
+    Call::exact(15, x, first, &lines(&[FIVE, (2, 1, 2, 1, 15)]))
+}
+
+/// Columns with two inputs of one variable: equal or opposite, at each two
+/// places, beside each third input, and in the last column, as far as there are
+/// recipes that have them.
+pub fn shared() -> Vec<Call> {
+    let sixty_three = [(2, 0, 6, 0, 63), (1, 1, 2, 1, 315), (2, 2, 1, 1, 567)];
+    let thirty_one = [(2, 0, 5, 0, 31), (3, 1, 4, 0, 15), (1, 0, 2, 2, 19), (2, 3, 1, 1, 7)];
+    vec![
+        Call::exact(21, &[-1], 2, &lines(&[SEVEN, (1, 1, 1, 1, 21)])),
+        Call::exact(5, &[2], 3, &lines(&[THREE, (2, 0, 3, 1, 5)])),
+        Call::exact(5, &[-6], 9, &lines(&[SEVEN, (3, 1, 1, 0, 5)])),
+        Call::exact(14, &[-3], 4, &lines(&[SEVEN, (2, 1, 1, 1, 7)])),
+        Call::exact(9, &[-2, 1], 3, &lines(&[FIVE, (1, 0, 2, 1, 9)])),
+        Call::exact(1, &[2, -1, -3], 4, &lines(&[(2, 0, 1, 0, 1)])),
+        fifteen(&[5, -3], 8),
+        Call::exact(567, &[-1, 2], 3, &lines(&sixty_three)),
+        Call::exact(7, &[-2, -1], 3, &lines(&thirty_one)),
     ]
 }
 
@@ -135,7 +162,8 @@ fn variables() -> Vec<Call> {
     ]
 }
 
-/// Each refusal and the next one in order, both with reason.
+/// Each refusal and the next one in order, both with reason; last, one word too
+/// few where two inputs of one variable saved some.
 fn order() -> Vec<Call> {
     let wrong = lines(&[(1, 0, 1, 0, 5)]);
     let cut = [&wrong[..], &[0]].concat();
@@ -150,6 +178,7 @@ fn order() -> Vec<Call> {
         three(&[1, -2], END).in_rooms(4, 51),
         three(&[1, -2], 3).in_rooms(3, 51),
         three(&[1, -2], 3).in_rooms(4, 51),
+        fifteen(&[1, -2], 3).in_rooms(6, 67),
     ]
 }
 
@@ -159,7 +188,8 @@ pub fn rooms() -> Vec<Call> {
         three(&[-1, 2], 3).in_longer_rooms(),
         three(&[-5, -2_147_483_643], END - 4).in_longer_rooms(),
         Call::exact(6, &[40, -17], 900, &lines(&[THREE])).in_longer_rooms(),
-        Call::exact(5, &[-9], 12, &lines(&[THREE, (2, 1, 1, 0, 5)])).in_longer_rooms(),
+        Call::exact(5, &[-9], 12, &lines(&THREE_FIVE)).in_longer_rooms(),
+        fifteen(&[-9, 4], 12).in_longer_rooms(),
         three(&[-5, 4], END - 3).in_longer_rooms(),
         three(&[-4, 4], 5).in_longer_rooms(),
     ]

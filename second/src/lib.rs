@@ -1,6 +1,6 @@
 //! Constant products as clauses: plan a recipe for `c`, check one, write its
 //! clauses, print them as a DIMACS file, make one pass over words. Written from
-//! documents 01 and 02 alone (of 02, a and i so far), to stand beside the first
+//! documents 01 and 02 alone (of 02, a, b and i so far), to stand beside the first
 //! engine and be compared with it.
 
 #![forbid(unsafe_code)]

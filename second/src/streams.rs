@@ -32,11 +32,17 @@ pub(crate) fn planned(c: u64) -> Vec<u8> {
     recipe
 }
 
+/// Draws by how much a line shifts at most, less one.
+type Shifts = fn(&mut Random) -> u64;
+
+const ANY_SHIFTS: Shifts = |random| if random.one_in(3) { 19 } else { 5 };
+const SMALL_SHIFTS: Shifts = |_| 4;
+
 /// One more line that is right over the coefficients so far, if the draw gives
 /// one of at most `most`.
-fn drawn_line(coefficients: &[u64], most: i64, random: &mut Random) -> Option<Line> {
+fn drawn_line(coefficients: &[u64], most: i64, shifts: Shifts, random: &mut Random) -> Option<Line> {
     let place = |random: &mut Random| random.up_to(coefficients.len() as u64 - 1) as usize;
-    let most_s = if random.one_in(3) { 19 } else { 5 };
+    let most_s = shifts(random);
     let (kind, s) = (1 + random.up_to(2), 1 + random.up_to(most_s) as u32);
     let mut line = Line { top: 0, kind, left: place(random), s, right: place(random), claimed: 0 };
     let value = line.gives(coefficients).filter(|value| (1..=most).contains(value))?;
@@ -46,12 +52,12 @@ fn drawn_line(coefficients: &[u64], most: i64, random: &mut Random) -> Option<Li
 
 /// A right recipe of so many lines that nobody planned, and its product, which
 /// is at most 65,535; with no lines it is 1.
-fn walk(lines: usize, random: &mut Random) -> (u64, Vec<u8>) {
+fn walk(lines: usize, shifts: Shifts, random: &mut Random) -> (u64, Vec<u8>) {
     let (mut coefficients, mut recipe) = (vec![1], Vec::new());
     while recipe.len() < LINE_BYTES * lines {
         let last = recipe.len() + LINE_BYTES == LINE_BYTES * lines;
         let most = if last { MAX_CONSTANT as i64 } else { MAX_COEFFICIENT };
-        if let Some(line) = drawn_line(&coefficients, most, random) {
+        if let Some(line) = drawn_line(&coefficients, most, shifts, random) {
             coefficients.push(line.claimed);
             recipe.extend(line.pack());
         }
@@ -67,9 +73,13 @@ fn right(random: &mut Random) -> (u64, Vec<u8>) {
     }
     let most_lines = if random.one_in(3) { 32 } else { 8 };
     let lines = random.up_to(most_lines) as usize;
-    let (d, recipe) = walk(lines, random);
+    let (d, recipe) = walk(lines, ANY_SHIFTS, random);
+    (with_odd_part(d, random), recipe)
+}
+
+fn with_odd_part(d: u64, random: &mut Random) -> u64 {
     let most = MAX_CONSTANT.ilog2() - d.ilog2();
-    (d << random.up_to(u64::from(most)), recipe)
+    d << random.up_to(u64::from(most))
 }
 
 fn turned_over(recipe: &mut [u8], random: &mut Random) {
@@ -201,10 +211,32 @@ fn rooms(c: u64, w: u64, recipe: &[u8], random: &mut Random) -> (usize, usize) {
     (bits, words.min(65_535))
 }
 
+/// A constant and a recipe for it, with a width.
+fn right_at_width(random: &mut Random) -> (u64, u64, Vec<u8>) {
+    if random.one_in(2) {
+        return narrow(random);
+    }
+    let (c, recipe) = right(random);
+    (c, 1 + random.up_to(15), recipe)
+}
+
+/// Where x has few bits and lines shift little, many columns have two inputs of one variable. Some such columns are met
+/// hardly ever but in the recipes by hand.
+fn narrow(random: &mut Random) -> (u64, u64, Vec<u8>) {
+    if random.one_in(12) {
+        let mut calls = edges::shared();
+        let Call { c, w, recipe, .. } = calls.swap_remove(random.up_to(calls.len() as u64 - 1) as usize);
+        return (c, w, recipe);
+    }
+    let lines = 2 + random.up_to(6) as usize;
+    let (d, recipe) = walk(lines, SMALL_SHIFTS, random);
+    (with_odd_part(d, random), 1 + random.up_to(2), recipe)
+}
+
 fn write_case(round: usize, random: &mut Random) -> (u64, u64, Vec<u8>) {
-    let (c, recipe) = if random.one_in(12) { proposed(round, random) } else { right(random) };
-    let w = if random.one_in(40) { random.up_to(255) } else { 1 + random.up_to(15) };
-    (c, w, recipe)
+    let (c, w, recipe) = right_at_width(random);
+    let (c, recipe) = if random.one_in(12) { proposed(round, random) } else { (c, recipe) };
+    (c, if random.one_in(40) { random.up_to(255) } else { w }, recipe)
 }
 
 /// Document 01's call: no literals, and no number is said to be free.
@@ -287,7 +319,7 @@ fn drawn_first(w: u64, opened: u32, random: &mut Random) -> u32 {
 
 /// A call that succeeds, unless it takes more words than a record can give it room for.
 fn right_call(random: &mut Random) -> Call {
-    let ((c, recipe), w) = (right(random), 1 + random.up_to(15));
+    let (c, w, recipe) = right_at_width(random);
     let counts = needed(c, w, &recipe).expect("the recipe is right");
     let first = drawn_first(w, counts.next - w as u32 - 1, random);
     let x = drawn_literals(w, first, random);

@@ -21,9 +21,10 @@ pub struct Counts {
 /// Writes y and the clauses of `recipe` into the two rooms, over the literals
 /// `x` and new variables from `first` on.
 ///
-/// What is written hangs on which bits are fixed and never on what the others
-/// are called. So the plain encoding is made and its variables are renamed, and
-/// that only after refusal 15, when every name is known to fit a word.
+/// What is written hangs on which bits are fixed and which are of one variable,
+/// and never on what they are called. So the plain encoding is made and its
+/// variables are renamed, and that only after refusal 15, when every name is
+/// known to fit a word.
 pub fn write(
     c: u64,
     w: u64,

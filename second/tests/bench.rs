@@ -1,4 +1,4 @@
-//! Every sum done on the bench in document 01.
+//! Every sum done on the bench in document 01, one of them as document 02 has it.
 
 mod common;
 use common::*;
@@ -70,8 +70,8 @@ fn y_of_6_at_2() {
 fn recipe_3_5_at_1() {
     let recipe = recipe_of(&[(SPLUS, 0, 1, 0, 3), (SMINUS, 1, 1, 0, 5)]);
     let written = written(5, 1, &recipe);
-    assert_eq!(written.bits, [1, 2, 4]);
-    assert_eq!(written.counts, second::Counts { words: 42, clauses: 11, next: 5, bits: 3 });
+    assert_eq!(written.bits, [1, 0, 1]);
+    assert_eq!(written.counts, second::Counts { words: 0, clauses: 0, next: 2, bits: 3 });
 }
 
 #[test]

@@ -1,7 +1,9 @@
 //! Exactly one assignment for each input, and there y reads the product.
 
 mod common;
+use common::listed::{pairs_of, PAIRS};
 use common::*;
+use std::collections::BTreeMap;
 
 /// With at most this many new variables all assignments are tried.
 const TRIED: u32 = 16;
@@ -60,4 +62,39 @@ fn wide_inputs_by_propagation() {
         let samples = (0..12).map(|_| random.up_to((1 << w) - 1)).collect::<Vec<_>>();
         ends.iter().chain(&samples).for_each(|x| assert_propagates(c, &written, *x));
     }
+}
+
+/// By trial, where that is not too much; then the pairs of inputs of one variable are told.
+fn tried_pairs(c: u64, w: u64, recipe: &[u8], most_new: u32) -> Vec<listed::Pair> {
+    let written = written(c, w, recipe);
+    if written.highest() - w as u32 > most_new {
+        return vec![];
+    }
+    assert_counted_off_the_room(&written);
+    (0..1 << w).for_each(|x| assert_one_model(c, &written, x));
+    pairs_of(w, recipe).into_keys().collect()
+}
+
+#[test]
+fn recipes_with_pairs() {
+    let recipes = recipes_with_pairs_of_every_kind();
+    let own: Vec<_> = recipes.iter().flat_map(|(c, w, recipe)| tried_pairs(*c, *w, recipe, TRIED)).collect();
+    assert!(PAIRS.iter().all(|pair| own.contains(pair)), "{own:?}");
+    for (c, _, recipe) in &recipes {
+        (1..=4).for_each(|w| drop(tried_pairs(*c, w, recipe, TRIED)));
+    }
+}
+
+/// Short walks of small shifts over narrow inputs, which have most pairs often.
+#[test]
+fn narrow_walks() {
+    let (mut random, mut met) = (Random::seeded(15), BTreeMap::new());
+    for round in 0..6_000u64 {
+        let (d, lines) = walk_within(6, 1 + round as usize % 5, &mut random);
+        for pair in tried_pairs(d, 1 + round / 5 % 3, &recipe_of(&lines), 11) {
+            *met.entry(pair).or_insert(0) += 1;
+        }
+    }
+    println!("{met:?}");
+    assert!(met.len() >= 12 && met.keys().all(|pair| PAIRS.contains(pair)), "{met:?}");
 }

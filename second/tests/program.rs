@@ -44,7 +44,7 @@ fn write() {
     let file = String::from_utf8(second::print(b"3 2\n")).unwrap();
     assert_eq!(output(&["write", "3", "2"]), file);
     assert_eq!(output(&["write", "3", "2", "2004000003"]), file);
-    assert_eq!(output(&["write", "5", "1", "2004000003 4084000005"]).lines().count(), 14);
+    assert_eq!(output(&["write", "5", "1", "2004000003 4084000005"]), "c mul 5 1\nc y 1 0 1\np cnf 1 0\n");
     assert_eq!(output(&["write", "3", "17"]), "refused 2\n");
     assert_eq!(output(&["write", "0", "17"]), "refused 1\n");
     assert_eq!(output(&["write", "3", "2", ""]), "refused 8\n");

@@ -465,7 +465,7 @@ fn one_pass_over_planned_products() {
     }
 }
 
-/// Lines that nothing uses are set too, and so are those with a variable at two inputs of a column.
+/// Lines that nothing uses are set too, and so are those with two inputs of one variable in a column.
 #[test]
 fn one_pass_over_walks() {
     let mut random = Random::seeded(24);
@@ -475,11 +475,11 @@ fn one_pass_over_walks() {
         let product = Product::new(c, &literals(w, first, &mut random), first, &recipe_of(&lines));
         (0..4).for_each(|_| product.assert_one_pass(random.up_to((1 << w) - 1), &mut random));
     }
-    let shared = recipe_of(&[(SPLUS, 0, 1, 0, 3), (SMINUS, 1, 1, 0, 5)]);
-    for x in [[1], [-1], [3], [-4]] {
-        let product = Product::new(5, &x, 5, &shared);
-        assert_eq!((product.written.counts.clauses, product.written.highest()), (11, 7));
-        (0..2).for_each(|number| product.assert_one_pass(number, &mut random));
+    for (c, w, recipe) in recipes_with_pairs_of_every_kind() {
+        for first in [w as u32 + 1, 9] {
+            let product = Product::new(c, &literals(w, first, &mut random), first, &recipe);
+            (0..1 << w).for_each(|number| product.assert_one_pass(number, &mut random));
+        }
     }
 }
 

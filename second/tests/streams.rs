@@ -1,8 +1,10 @@
 //! The streams of calls as a program meets them, read here a second time.
 
 mod common;
+use common::listed::{pairs_of, PAIRS};
 use common::*;
 use second::streams;
+use std::collections::BTreeMap;
 
 const END: u64 = 2_147_483_648;
 
@@ -189,6 +191,20 @@ fn the_calls_drawn_are_of_every_kind() {
     assert!(met.last > 100 && met.negative > 1_000, "{met:?}");
     assert!([1, 2, 14, 3, 7, 8, 15, 9, 10].iter().all(|number| met.refusals[*number] > 5), "{met:?}");
     assert!([met.length_too, met.variables_too, met.bits_too, met.words_too].iter().all(|both| *both > 2), "{met:?}");
+}
+
+/// Calls that succeed have columns with two inputs of one variable, of every kind that there is.
+#[test]
+fn the_calls_drawn_have_pairs() {
+    let (by_hand, mut met) = (records(&streams::writes(4, 0)).len(), BTreeMap::new());
+    let drawn = records(&streams::writes(4, 6_000)).split_off(by_hand);
+    let right: Vec<&Record> = drawn.iter().filter(|record| answer(record).0.is_ok()).collect();
+    let pairs: Vec<_> = right.iter().map(|record| pairs_of(record.w, &record.recipe)).collect();
+    let with_pairs = pairs.iter().filter(|pairs| !pairs.is_empty()).count();
+    pairs.iter().flat_map(|pairs| pairs.keys()).for_each(|pair| *met.entry(*pair).or_insert(0) += 1);
+    println!("{with_pairs} of {}: {met:?}", right.len());
+    assert!(3 * with_pairs > right.len(), "{with_pairs} of {}", right.len());
+    assert!(met.values().all(|calls| *calls > 5) && met.into_keys().eq(PAIRS));
 }
 
 /// FNV-1a, to hold a stream to its bytes.

@@ -162,15 +162,15 @@ agreed =
           ∷ record { c = 59; w = 2; recipe = 64 ∷ 24 ∷ 0 ∷ 0 ∷ 63 ∷ 96 ∷ 136 ∷ 0 ∷ 0 ∷ 59 ∷ []; bits = 8; clauses = 252; number = 0; words-used = 252; clauses-written = 64; next = 19; y = pos 1 ∷ pos 3 ∷ pos 8 ∷ pos 10 ∷ pos 12 ∷ pos 14 ∷ pos 16 ∷ pos 18 ∷ [] }
           ∷ record { c = 59; w = 2; recipe = 64 ∷ 24 ∷ 0 ∷ 0 ∷ 63 ∷ 96 ∷ 136 ∷ 0 ∷ 0 ∷ 59 ∷ []; bits = 8; clauses = 251; number = 10; words-used = 0; clauses-written = 0; next = 0; y = [] }
           ∷ record { c = 59; w = 2; recipe = 64 ∷ 24 ∷ 0 ∷ 0 ∷ 63 ∷ 96 ∷ 136 ∷ 0 ∷ 0 ∷ 59 ∷ []; bits = 7; clauses = 252; number = 9; words-used = 0; clauses-written = 0; next = 0; y = [] }
-          ∷ record { c = 5; w = 3; recipe = 32 ∷ 4 ∷ 0 ∷ 0 ∷ 3 ∷ 64 ∷ 132 ∷ 0 ∷ 0 ∷ 5 ∷ []; bits = 6; clauses = 312; number = 0; words-used = 312; clauses-written = 74; next = 19; y = pos 1 ∷ pos 10 ∷ pos 12 ∷ pos 14 ∷ pos 16 ∷ pos 18 ∷ [] }
-          ∷ record { c = 5; w = 3; recipe = 32 ∷ 4 ∷ 0 ∷ 0 ∷ 3 ∷ 64 ∷ 132 ∷ 0 ∷ 0 ∷ 5 ∷ []; bits = 6; clauses = 311; number = 10; words-used = 0; clauses-written = 0; next = 0; y = [] }
-          ∷ record { c = 5; w = 3; recipe = 32 ∷ 4 ∷ 0 ∷ 0 ∷ 3 ∷ 64 ∷ 132 ∷ 0 ∷ 0 ∷ 5 ∷ []; bits = 5; clauses = 312; number = 9; words-used = 0; clauses-written = 0; next = 0; y = [] }
+          ∷ record { c = 5; w = 3; recipe = 32 ∷ 4 ∷ 0 ∷ 0 ∷ 3 ∷ 64 ∷ 132 ∷ 0 ∷ 0 ∷ 5 ∷ []; bits = 6; clauses = 248; number = 0; words-used = 248; clauses-written = 60; next = 17; y = pos 1 ∷ pos 2 ∷ pos 10 ∷ pos 12 ∷ pos 14 ∷ pos 16 ∷ [] }
+          ∷ record { c = 5; w = 3; recipe = 32 ∷ 4 ∷ 0 ∷ 0 ∷ 3 ∷ 64 ∷ 132 ∷ 0 ∷ 0 ∷ 5 ∷ []; bits = 6; clauses = 247; number = 10; words-used = 0; clauses-written = 0; next = 0; y = [] }
+          ∷ record { c = 5; w = 3; recipe = 32 ∷ 4 ∷ 0 ∷ 0 ∷ 3 ∷ 64 ∷ 132 ∷ 0 ∷ 0 ∷ 5 ∷ []; bits = 5; clauses = 248; number = 9; words-used = 0; clauses-written = 0; next = 0; y = [] }
           ∷ record { c = 3; w = 2; recipe = 32 ∷ 8 ∷ 0 ∷ 0 ∷ 5 ∷ 64 ∷ 8 ∷ 0 ∷ 0 ∷ 3 ∷ 32 ∷ 4 ∷ 0 ∷ 0 ∷ 3 ∷ []; bits = 4; clauses = 120; number = 0; words-used = 120; clauses-written = 32; next = 12; y = pos 1 ∷ pos 8 ∷ pos 10 ∷ pos 11 ∷ [] }
           ∷ record { c = 3; w = 2; recipe = 32 ∷ 8 ∷ 0 ∷ 0 ∷ 5 ∷ 64 ∷ 8 ∷ 0 ∷ 0 ∷ 3 ∷ 32 ∷ 4 ∷ 0 ∷ 0 ∷ 3 ∷ []; bits = 4; clauses = 119; number = 10; words-used = 0; clauses-written = 0; next = 0; y = [] }
           ∷ record { c = 3; w = 2; recipe = 32 ∷ 8 ∷ 0 ∷ 0 ∷ 5 ∷ 64 ∷ 8 ∷ 0 ∷ 0 ∷ 3 ∷ 32 ∷ 4 ∷ 0 ∷ 0 ∷ 3 ∷ []; bits = 3; clauses = 120; number = 9; words-used = 0; clauses-written = 0; next = 0; y = [] }
-          ∷ record { c = 20; w = 1; recipe = 32 ∷ 8 ∷ 0 ∷ 0 ∷ 5 ∷ 96 ∷ 132 ∷ 0 ∷ 0 ∷ 3 ∷ 65 ∷ 4 ∷ 0 ∷ 0 ∷ 5 ∷ []; bits = 5; clauses = 42; number = 0; words-used = 42; clauses-written = 11; next = 5; y = pos 0 ∷ pos 0 ∷ pos 1 ∷ pos 2 ∷ pos 4 ∷ [] }
-          ∷ record { c = 20; w = 1; recipe = 32 ∷ 8 ∷ 0 ∷ 0 ∷ 5 ∷ 96 ∷ 132 ∷ 0 ∷ 0 ∷ 3 ∷ 65 ∷ 4 ∷ 0 ∷ 0 ∷ 5 ∷ []; bits = 5; clauses = 41; number = 10; words-used = 0; clauses-written = 0; next = 0; y = [] }
-          ∷ record { c = 20; w = 1; recipe = 32 ∷ 8 ∷ 0 ∷ 0 ∷ 5 ∷ 96 ∷ 132 ∷ 0 ∷ 0 ∷ 3 ∷ 65 ∷ 4 ∷ 0 ∷ 0 ∷ 5 ∷ []; bits = 4; clauses = 42; number = 9; words-used = 0; clauses-written = 0; next = 0; y = [] }
+          ∷ record { c = 20; w = 1; recipe = 32 ∷ 8 ∷ 0 ∷ 0 ∷ 5 ∷ 96 ∷ 132 ∷ 0 ∷ 0 ∷ 3 ∷ 65 ∷ 4 ∷ 0 ∷ 0 ∷ 5 ∷ []; bits = 5; clauses = 0; number = 0; words-used = 0; clauses-written = 0; next = 2; y = pos 0 ∷ pos 0 ∷ pos 1 ∷ pos 0 ∷ pos 1 ∷ [] }
+          ∷ record { c = 20; w = 1; recipe = 32 ∷ 8 ∷ 0 ∷ 0 ∷ 5 ∷ 96 ∷ 132 ∷ 0 ∷ 0 ∷ 3 ∷ 65 ∷ 4 ∷ 0 ∷ 0 ∷ 5 ∷ []; bits = 4; clauses = 0; number = 9; words-used = 0; clauses-written = 0; next = 0; y = [] }
+          ∷ record { c = 5; w = 1; recipe = 32 ∷ 4 ∷ 0 ∷ 0 ∷ 3 ∷ 64 ∷ 132 ∷ 0 ∷ 0 ∷ 5 ∷ []; bits = 3; clauses = 0; number = 0; words-used = 0; clauses-written = 0; next = 2; y = pos 1 ∷ pos 0 ∷ pos 1 ∷ [] }
           ∷ record { c = 0; w = 0; recipe = 32 ∷ 4 ∷ 0 ∷ 0 ∷ 3 ∷ []; bits = 3; clauses = 51; number = 1; words-used = 0; clauses-written = 0; next = 0; y = [] }
           ∷ record { c = 65536; w = 3; recipe = 32 ∷ 4 ∷ 0 ∷ 0 ∷ 3 ∷ []; bits = 3; clauses = 51; number = 1; words-used = 0; clauses-written = 0; next = 0; y = [] }
           ∷ record { c = 3; w = 0; recipe = 32 ∷ 8 ∷ 0 ∷ 0 ∷ 5 ∷ []; bits = 3; clauses = 51; number = 2; words-used = 0; clauses-written = 0; next = 0; y = [] }
@@ -193,9 +193,9 @@ agreed =
           ∷ record { c = 255; w = 4; recipe = 64 ∷ 32 ∷ 0 ∷ 0 ∷ 255 ∷ []; bits = 14; clauses = 175; bit-room = pos 1 ∷ pos 5 ∷ pos 7 ∷ pos 9 ∷ negsuc 9 ∷ negsuc 9 ∷ negsuc 9 ∷ negsuc 9 ∷ pos 11 ∷ pos 13 ∷ pos 15 ∷ pos 17 ∷ pos 7 ∷ pos 7 ∷ []; clause-room = negsuc 1 ∷ negsuc 0 ∷ negsuc 4 ∷ pos 0 ∷ negsuc 1 ∷ pos 1 ∷ pos 5 ∷ pos 0 ∷ pos 2 ∷ negsuc 0 ∷ pos 5 ∷ pos 0 ∷ pos 2 ∷ pos 1 ∷ negsuc 4 ∷ pos 0 ∷ negsuc 1 ∷ negsuc 5 ∷ pos 0 ∷ negsuc 0 ∷ negsuc 5 ∷ pos 0 ∷ pos 2 ∷ pos 1 ∷ pos 6 ∷ pos 0 ∷ negsuc 2 ∷ pos 6 ∷ negsuc 6 ∷ pos 0 ∷ negsuc 2 ∷ negsuc 5 ∷ pos 7 ∷ pos 0 ∷ pos 3 ∷ pos 6 ∷ pos 7 ∷ pos 0 ∷ pos 3 ∷ negsuc 5 ∷ negsuc 6 ∷ pos 0 ∷ negsuc 2 ∷ negsuc 7 ∷ pos 0 ∷ pos 6 ∷ negsuc 7 ∷ pos 0 ∷ pos 3 ∷ negsuc 5 ∷ pos 8 ∷ pos 0 ∷ negsuc 3 ∷ pos 8 ∷ negsuc 8 ∷ pos 0 ∷ negsuc 3 ∷ negsuc 7 ∷ pos 9 ∷ pos 0 ∷ pos 4 ∷ pos 8 ∷ pos 9 ∷ pos 0 ∷ pos 4 ∷ negsuc 7 ∷ negsuc 8 ∷ pos 0 ∷ negsuc 3 ∷ negsuc 9 ∷ pos 0 ∷ pos 8 ∷ negsuc 9 ∷ pos 0 ∷ pos 4 ∷ negsuc 7 ∷ pos 10 ∷ pos 0 ∷ pos 1 ∷ pos 10 ∷ pos 11 ∷ pos 0 ∷ pos 1 ∷ negsuc 9 ∷ negsuc 10 ∷ pos 0 ∷ negsuc 0 ∷ pos 10 ∷ negsuc 10 ∷ pos 0 ∷ negsuc 0 ∷ negsuc 9 ∷ pos 11 ∷ pos 0 ∷ negsuc 0 ∷ pos 12 ∷ pos 0 ∷ negsuc 9 ∷ pos 12 ∷ pos 0 ∷ pos 1 ∷ pos 10 ∷ negsuc 11 ∷ pos 0 ∷ pos 2 ∷ pos 12 ∷ pos 13 ∷ pos 0 ∷ pos 2 ∷ negsuc 11 ∷ negsuc 12 ∷ pos 0 ∷ negsuc 1 ∷ pos 12 ∷ negsuc 12 ∷ pos 0 ∷ negsuc 1 ∷ negsuc 11 ∷ pos 13 ∷ pos 0 ∷ negsuc 1 ∷ pos 14 ∷ pos 0 ∷ negsuc 11 ∷ pos 14 ∷ pos 0 ∷ pos 2 ∷ pos 12 ∷ negsuc 13 ∷ pos 0 ∷ pos 3 ∷ pos 14 ∷ pos 15 ∷ pos 0 ∷ pos 3 ∷ negsuc 13 ∷ negsuc 14 ∷ pos 0 ∷ negsuc 2 ∷ pos 14 ∷ negsuc 14 ∷ pos 0 ∷ negsuc 2 ∷ negsuc 13 ∷ pos 15 ∷ pos 0 ∷ negsuc 2 ∷ pos 16 ∷ pos 0 ∷ negsuc 13 ∷ pos 16 ∷ pos 0 ∷ pos 3 ∷ pos 14 ∷ negsuc 15 ∷ pos 0 ∷ pos 4 ∷ pos 16 ∷ pos 17 ∷ pos 0 ∷ pos 4 ∷ negsuc 15 ∷ negsuc 16 ∷ pos 0 ∷ negsuc 3 ∷ pos 16 ∷ negsuc 16 ∷ pos 0 ∷ negsuc 3 ∷ negsuc 15 ∷ pos 17 ∷ pos 0 ∷ pos 7 ∷ pos 7 ∷ pos 7 ∷ [] }
           ∷ record { c = 65535; w = 3; recipe = 64 ∷ 64 ∷ 0 ∷ 255 ∷ 255 ∷ []; bits = 21; clauses = 123; bit-room = pos 1 ∷ pos 4 ∷ pos 6 ∷ negsuc 6 ∷ negsuc 6 ∷ negsuc 6 ∷ negsuc 6 ∷ negsuc 6 ∷ negsuc 6 ∷ negsuc 6 ∷ negsuc 6 ∷ negsuc 6 ∷ negsuc 6 ∷ negsuc 6 ∷ negsuc 6 ∷ negsuc 6 ∷ pos 8 ∷ pos 10 ∷ pos 12 ∷ pos 7 ∷ pos 7 ∷ []; clause-room = negsuc 1 ∷ negsuc 0 ∷ negsuc 3 ∷ pos 0 ∷ negsuc 1 ∷ pos 1 ∷ pos 4 ∷ pos 0 ∷ pos 2 ∷ negsuc 0 ∷ pos 4 ∷ pos 0 ∷ pos 2 ∷ pos 1 ∷ negsuc 3 ∷ pos 0 ∷ negsuc 1 ∷ negsuc 4 ∷ pos 0 ∷ negsuc 0 ∷ negsuc 4 ∷ pos 0 ∷ pos 2 ∷ pos 1 ∷ pos 5 ∷ pos 0 ∷ negsuc 2 ∷ pos 5 ∷ negsuc 5 ∷ pos 0 ∷ negsuc 2 ∷ negsuc 4 ∷ pos 6 ∷ pos 0 ∷ pos 3 ∷ pos 5 ∷ pos 6 ∷ pos 0 ∷ pos 3 ∷ negsuc 4 ∷ negsuc 5 ∷ pos 0 ∷ negsuc 2 ∷ negsuc 6 ∷ pos 0 ∷ pos 5 ∷ negsuc 6 ∷ pos 0 ∷ pos 3 ∷ negsuc 4 ∷ pos 7 ∷ pos 0 ∷ pos 1 ∷ pos 7 ∷ pos 8 ∷ pos 0 ∷ pos 1 ∷ negsuc 6 ∷ negsuc 7 ∷ pos 0 ∷ negsuc 0 ∷ pos 7 ∷ negsuc 7 ∷ pos 0 ∷ negsuc 0 ∷ negsuc 6 ∷ pos 8 ∷ pos 0 ∷ negsuc 0 ∷ pos 9 ∷ pos 0 ∷ negsuc 6 ∷ pos 9 ∷ pos 0 ∷ pos 1 ∷ pos 7 ∷ negsuc 8 ∷ pos 0 ∷ pos 2 ∷ pos 9 ∷ pos 10 ∷ pos 0 ∷ pos 2 ∷ negsuc 8 ∷ negsuc 9 ∷ pos 0 ∷ negsuc 1 ∷ pos 9 ∷ negsuc 9 ∷ pos 0 ∷ negsuc 1 ∷ negsuc 8 ∷ pos 10 ∷ pos 0 ∷ negsuc 1 ∷ pos 11 ∷ pos 0 ∷ negsuc 8 ∷ pos 11 ∷ pos 0 ∷ pos 2 ∷ pos 9 ∷ negsuc 10 ∷ pos 0 ∷ pos 3 ∷ pos 11 ∷ pos 12 ∷ pos 0 ∷ pos 3 ∷ negsuc 10 ∷ negsuc 11 ∷ pos 0 ∷ negsuc 2 ∷ pos 11 ∷ negsuc 11 ∷ pos 0 ∷ negsuc 2 ∷ negsuc 10 ∷ pos 12 ∷ pos 0 ∷ pos 7 ∷ pos 7 ∷ pos 7 ∷ [] }
           ∷ record { c = 59; w = 2; recipe = 64 ∷ 24 ∷ 0 ∷ 0 ∷ 63 ∷ 96 ∷ 136 ∷ 0 ∷ 0 ∷ 59 ∷ []; bits = 10; clauses = 255; bit-room = pos 1 ∷ pos 3 ∷ pos 8 ∷ pos 10 ∷ pos 12 ∷ pos 14 ∷ pos 16 ∷ pos 18 ∷ pos 7 ∷ pos 7 ∷ []; clause-room = negsuc 1 ∷ negsuc 0 ∷ negsuc 2 ∷ pos 0 ∷ negsuc 1 ∷ pos 1 ∷ pos 3 ∷ pos 0 ∷ pos 2 ∷ negsuc 0 ∷ pos 3 ∷ pos 0 ∷ pos 2 ∷ pos 1 ∷ negsuc 2 ∷ pos 0 ∷ negsuc 1 ∷ negsuc 3 ∷ pos 0 ∷ negsuc 0 ∷ negsuc 3 ∷ pos 0 ∷ pos 2 ∷ pos 1 ∷ pos 4 ∷ pos 0 ∷ pos 1 ∷ pos 4 ∷ pos 5 ∷ pos 0 ∷ pos 1 ∷ negsuc 3 ∷ negsuc 4 ∷ pos 0 ∷ negsuc 0 ∷ pos 4 ∷ negsuc 4 ∷ pos 0 ∷ negsuc 0 ∷ negsuc 3 ∷ pos 5 ∷ pos 0 ∷ negsuc 0 ∷ pos 6 ∷ pos 0 ∷ negsuc 3 ∷ pos 6 ∷ pos 0 ∷ pos 1 ∷ pos 4 ∷ negsuc 5 ∷ pos 0 ∷ pos 2 ∷ pos 6 ∷ pos 7 ∷ pos 0 ∷ pos 2 ∷ negsuc 5 ∷ negsuc 6 ∷ pos 0 ∷ negsuc 1 ∷ pos 6 ∷ negsuc 6 ∷ pos 0 ∷ negsuc 1 ∷ negsuc 5 ∷ pos 7 ∷ pos 0 ∷ negsuc 3 ∷ negsuc 0 ∷ pos 8 ∷ pos 0 ∷ negsuc 3 ∷ pos 1 ∷ negsuc 7 ∷ pos 0 ∷ pos 4 ∷ negsuc 0 ∷ negsuc 7 ∷ pos 0 ∷ pos 4 ∷ pos 1 ∷ pos 8 ∷ pos 0 ∷ pos 4 ∷ pos 9 ∷ pos 0 ∷ pos 1 ∷ pos 9 ∷ pos 0 ∷ negsuc 3 ∷ negsuc 0 ∷ negsuc 8 ∷ pos 0 ∷ negsuc 3 ∷ negsuc 1 ∷ pos 9 ∷ negsuc 9 ∷ pos 0 ∷ negsuc 3 ∷ negsuc 1 ∷ negsuc 8 ∷ pos 10 ∷ pos 0 ∷ negsuc 3 ∷ pos 2 ∷ pos 9 ∷ pos 10 ∷ pos 0 ∷ negsuc 3 ∷ pos 2 ∷ negsuc 8 ∷ negsuc 9 ∷ pos 0 ∷ pos 4 ∷ negsuc 1 ∷ pos 9 ∷ pos 10 ∷ pos 0 ∷ pos 4 ∷ negsuc 1 ∷ negsuc 8 ∷ negsuc 9 ∷ pos 0 ∷ pos 4 ∷ pos 2 ∷ pos 9 ∷ negsuc 9 ∷ pos 0 ∷ pos 4 ∷ pos 2 ∷ negsuc 8 ∷ pos 10 ∷ pos 0 ∷ negsuc 3 ∷ negsuc 1 ∷ negsuc 10 ∷ pos 0 ∷ negsuc 3 ∷ pos 9 ∷ negsuc 10 ∷ pos 0 ∷ negsuc 1 ∷ pos 9 ∷ negsuc 10 ∷ pos 0 ∷ pos 4 ∷ pos 2 ∷ pos 11 ∷ pos 0 ∷ pos 4 ∷ negsuc 8 ∷ pos 11 ∷ pos 0 ∷ pos 2 ∷ negsuc 8 ∷ pos 11 ∷ pos 0 ∷ negsuc 3 ∷ pos 11 ∷ pos 12 ∷ pos 0 ∷ negsuc 3 ∷ negsuc 10 ∷ negsuc 11 ∷ pos 0 ∷ pos 4 ∷ pos 11 ∷ negsuc 11 ∷ pos 0 ∷ pos 4 ∷ negsuc 10 ∷ pos 12 ∷ pos 0 ∷ pos 4 ∷ pos 13 ∷ pos 0 ∷ negsuc 10 ∷ pos 13 ∷ pos 0 ∷ negsuc 3 ∷ pos 11 ∷ negsuc 12 ∷ pos 0 ∷ negsuc 3 ∷ pos 13 ∷ pos 14 ∷ pos 0 ∷ negsuc 3 ∷ negsuc 12 ∷ negsuc 13 ∷ pos 0 ∷ pos 4 ∷ pos 13 ∷ negsuc 13 ∷ pos 0 ∷ pos 4 ∷ negsuc 12 ∷ pos 14 ∷ pos 0 ∷ pos 4 ∷ pos 15 ∷ pos 0 ∷ negsuc 12 ∷ pos 15 ∷ pos 0 ∷ negsuc 3 ∷ pos 13 ∷ negsuc 14 ∷ pos 0 ∷ pos 5 ∷ pos 15 ∷ pos 16 ∷ pos 0 ∷ pos 5 ∷ negsuc 14 ∷ negsuc 15 ∷ pos 0 ∷ negsuc 4 ∷ pos 15 ∷ negsuc 15 ∷ pos 0 ∷ negsuc 4 ∷ negsuc 14 ∷ pos 16 ∷ pos 0 ∷ negsuc 4 ∷ pos 17 ∷ pos 0 ∷ negsuc 14 ∷ pos 17 ∷ pos 0 ∷ pos 5 ∷ pos 15 ∷ negsuc 16 ∷ pos 0 ∷ pos 7 ∷ pos 17 ∷ pos 18 ∷ pos 0 ∷ pos 7 ∷ negsuc 16 ∷ negsuc 17 ∷ pos 0 ∷ negsuc 6 ∷ pos 17 ∷ negsuc 17 ∷ pos 0 ∷ negsuc 6 ∷ negsuc 16 ∷ pos 18 ∷ pos 0 ∷ pos 7 ∷ pos 7 ∷ pos 7 ∷ [] }
-          ∷ record { c = 5; w = 3; recipe = 32 ∷ 4 ∷ 0 ∷ 0 ∷ 3 ∷ 64 ∷ 132 ∷ 0 ∷ 0 ∷ 5 ∷ []; bits = 8; clauses = 315; bit-room = pos 1 ∷ pos 10 ∷ pos 12 ∷ pos 14 ∷ pos 16 ∷ pos 18 ∷ pos 7 ∷ pos 7 ∷ []; clause-room = pos 1 ∷ pos 2 ∷ negsuc 3 ∷ pos 0 ∷ pos 1 ∷ negsuc 1 ∷ pos 4 ∷ pos 0 ∷ negsuc 0 ∷ pos 2 ∷ pos 4 ∷ pos 0 ∷ negsuc 0 ∷ negsuc 1 ∷ negsuc 3 ∷ pos 0 ∷ pos 1 ∷ negsuc 4 ∷ pos 0 ∷ pos 2 ∷ negsuc 4 ∷ pos 0 ∷ negsuc 0 ∷ negsuc 1 ∷ pos 5 ∷ pos 0 ∷ pos 2 ∷ pos 3 ∷ pos 5 ∷ negsuc 5 ∷ pos 0 ∷ pos 2 ∷ pos 3 ∷ negsuc 4 ∷ pos 6 ∷ pos 0 ∷ pos 2 ∷ negsuc 2 ∷ pos 5 ∷ pos 6 ∷ pos 0 ∷ pos 2 ∷ negsuc 2 ∷ negsuc 4 ∷ negsuc 5 ∷ pos 0 ∷ negsuc 1 ∷ pos 3 ∷ pos 5 ∷ pos 6 ∷ pos 0 ∷ negsuc 1 ∷ pos 3 ∷ negsuc 4 ∷ negsuc 5 ∷ pos 0 ∷ negsuc 1 ∷ negsuc 2 ∷ pos 5 ∷ negsuc 5 ∷ pos 0 ∷ negsuc 1 ∷ negsuc 2 ∷ negsuc 4 ∷ pos 6 ∷ pos 0 ∷ pos 2 ∷ pos 3 ∷ negsuc 6 ∷ pos 0 ∷ pos 2 ∷ pos 5 ∷ negsuc 6 ∷ pos 0 ∷ pos 3 ∷ pos 5 ∷ negsuc 6 ∷ pos 0 ∷ negsuc 1 ∷ negsuc 2 ∷ pos 7 ∷ pos 0 ∷ negsuc 1 ∷ negsuc 4 ∷ pos 7 ∷ pos 0 ∷ negsuc 2 ∷ negsuc 4 ∷ pos 7 ∷ pos 0 ∷ pos 3 ∷ pos 7 ∷ negsuc 7 ∷ pos 0 ∷ pos 3 ∷ negsuc 6 ∷ pos 8 ∷ pos 0 ∷ negsuc 2 ∷ pos 7 ∷ pos 8 ∷ pos 0 ∷ negsuc 2 ∷ negsuc 6 ∷ negsuc 7 ∷ pos 0 ∷ pos 3 ∷ negsuc 8 ∷ pos 0 ∷ pos 7 ∷ negsuc 8 ∷ pos 0 ∷ negsuc 2 ∷ negsuc 6 ∷ pos 9 ∷ pos 0 ∷ pos 1 ∷ negsuc 1 ∷ negsuc 0 ∷ negsuc 9 ∷ pos 0 ∷ pos 1 ∷ negsuc 1 ∷ pos 1 ∷ pos 10 ∷ pos 0 ∷ pos 1 ∷ pos 2 ∷ negsuc 0 ∷ pos 10 ∷ pos 0 ∷ pos 1 ∷ pos 2 ∷ pos 1 ∷ negsuc 9 ∷ pos 0 ∷ negsuc 0 ∷ negsuc 1 ∷ negsuc 0 ∷ pos 10 ∷ pos 0 ∷ negsuc 0 ∷ negsuc 1 ∷ pos 1 ∷ negsuc 9 ∷ pos 0 ∷ negsuc 0 ∷ pos 2 ∷ negsuc 0 ∷ negsuc 9 ∷ pos 0 ∷ negsuc 0 ∷ pos 2 ∷ pos 1 ∷ pos 10 ∷ pos 0 ∷ pos 1 ∷ negsuc 1 ∷ negsuc 10 ∷ pos 0 ∷ pos 1 ∷ negsuc 0 ∷ negsuc 10 ∷ pos 0 ∷ negsuc 1 ∷ negsuc 0 ∷ negsuc 10 ∷ pos 0 ∷ negsuc 0 ∷ pos 2 ∷ pos 11 ∷ pos 0 ∷ negsuc 0 ∷ pos 1 ∷ pos 11 ∷ pos 0 ∷ pos 2 ∷ pos 1 ∷ pos 11 ∷ pos 0 ∷ pos 4 ∷ negsuc 2 ∷ pos 11 ∷ negsuc 11 ∷ pos 0 ∷ pos 4 ∷ negsuc 2 ∷ negsuc 10 ∷ pos 12 ∷ pos 0 ∷ pos 4 ∷ pos 3 ∷ pos 11 ∷ pos 12 ∷ pos 0 ∷ pos 4 ∷ pos 3 ∷ negsuc 10 ∷ negsuc 11 ∷ pos 0 ∷ negsuc 3 ∷ negsuc 2 ∷ pos 11 ∷ pos 12 ∷ pos 0 ∷ negsuc 3 ∷ negsuc 2 ∷ negsuc 10 ∷ negsuc 11 ∷ pos 0 ∷ negsuc 3 ∷ pos 3 ∷ pos 11 ∷ negsuc 11 ∷ pos 0 ∷ negsuc 3 ∷ pos 3 ∷ negsuc 10 ∷ pos 12 ∷ pos 0 ∷ pos 4 ∷ negsuc 2 ∷ negsuc 12 ∷ pos 0 ∷ pos 4 ∷ pos 11 ∷ negsuc 12 ∷ pos 0 ∷ negsuc 2 ∷ pos 11 ∷ negsuc 12 ∷ pos 0 ∷ negsuc 3 ∷ pos 3 ∷ pos 13 ∷ pos 0 ∷ negsuc 3 ∷ negsuc 10 ∷ pos 13 ∷ pos 0 ∷ pos 3 ∷ negsuc 10 ∷ pos 13 ∷ pos 0 ∷ pos 6 ∷ pos 13 ∷ pos 14 ∷ pos 0 ∷ pos 6 ∷ negsuc 12 ∷ negsuc 13 ∷ pos 0 ∷ negsuc 5 ∷ pos 13 ∷ negsuc 13 ∷ pos 0 ∷ negsuc 5 ∷ negsuc 12 ∷ pos 14 ∷ pos 0 ∷ negsuc 5 ∷ pos 15 ∷ pos 0 ∷ negsuc 12 ∷ pos 15 ∷ pos 0 ∷ pos 6 ∷ pos 13 ∷ negsuc 14 ∷ pos 0 ∷ pos 8 ∷ pos 15 ∷ pos 16 ∷ pos 0 ∷ pos 8 ∷ negsuc 14 ∷ negsuc 15 ∷ pos 0 ∷ negsuc 7 ∷ pos 15 ∷ negsuc 15 ∷ pos 0 ∷ negsuc 7 ∷ negsuc 14 ∷ pos 16 ∷ pos 0 ∷ negsuc 7 ∷ pos 17 ∷ pos 0 ∷ negsuc 14 ∷ pos 17 ∷ pos 0 ∷ pos 8 ∷ pos 15 ∷ negsuc 16 ∷ pos 0 ∷ pos 9 ∷ pos 17 ∷ pos 18 ∷ pos 0 ∷ pos 9 ∷ negsuc 16 ∷ negsuc 17 ∷ pos 0 ∷ negsuc 8 ∷ pos 17 ∷ negsuc 17 ∷ pos 0 ∷ negsuc 8 ∷ negsuc 16 ∷ pos 18 ∷ pos 0 ∷ pos 7 ∷ pos 7 ∷ pos 7 ∷ [] }
+          ∷ record { c = 5; w = 3; recipe = 32 ∷ 4 ∷ 0 ∷ 0 ∷ 3 ∷ 64 ∷ 132 ∷ 0 ∷ 0 ∷ 5 ∷ []; bits = 8; clauses = 251; bit-room = pos 1 ∷ pos 2 ∷ pos 10 ∷ pos 12 ∷ pos 14 ∷ pos 16 ∷ pos 7 ∷ pos 7 ∷ []; clause-room = pos 1 ∷ pos 2 ∷ negsuc 3 ∷ pos 0 ∷ pos 1 ∷ negsuc 1 ∷ pos 4 ∷ pos 0 ∷ negsuc 0 ∷ pos 2 ∷ pos 4 ∷ pos 0 ∷ negsuc 0 ∷ negsuc 1 ∷ negsuc 3 ∷ pos 0 ∷ pos 1 ∷ negsuc 4 ∷ pos 0 ∷ pos 2 ∷ negsuc 4 ∷ pos 0 ∷ negsuc 0 ∷ negsuc 1 ∷ pos 5 ∷ pos 0 ∷ pos 2 ∷ pos 3 ∷ pos 5 ∷ negsuc 5 ∷ pos 0 ∷ pos 2 ∷ pos 3 ∷ negsuc 4 ∷ pos 6 ∷ pos 0 ∷ pos 2 ∷ negsuc 2 ∷ pos 5 ∷ pos 6 ∷ pos 0 ∷ pos 2 ∷ negsuc 2 ∷ negsuc 4 ∷ negsuc 5 ∷ pos 0 ∷ negsuc 1 ∷ pos 3 ∷ pos 5 ∷ pos 6 ∷ pos 0 ∷ negsuc 1 ∷ pos 3 ∷ negsuc 4 ∷ negsuc 5 ∷ pos 0 ∷ negsuc 1 ∷ negsuc 2 ∷ pos 5 ∷ negsuc 5 ∷ pos 0 ∷ negsuc 1 ∷ negsuc 2 ∷ negsuc 4 ∷ pos 6 ∷ pos 0 ∷ pos 2 ∷ pos 3 ∷ negsuc 6 ∷ pos 0 ∷ pos 2 ∷ pos 5 ∷ negsuc 6 ∷ pos 0 ∷ pos 3 ∷ pos 5 ∷ negsuc 6 ∷ pos 0 ∷ negsuc 1 ∷ negsuc 2 ∷ pos 7 ∷ pos 0 ∷ negsuc 1 ∷ negsuc 4 ∷ pos 7 ∷ pos 0 ∷ negsuc 2 ∷ negsuc 4 ∷ pos 7 ∷ pos 0 ∷ pos 3 ∷ pos 7 ∷ negsuc 7 ∷ pos 0 ∷ pos 3 ∷ negsuc 6 ∷ pos 8 ∷ pos 0 ∷ negsuc 2 ∷ pos 7 ∷ pos 8 ∷ pos 0 ∷ negsuc 2 ∷ negsuc 6 ∷ negsuc 7 ∷ pos 0 ∷ pos 3 ∷ negsuc 8 ∷ pos 0 ∷ pos 7 ∷ negsuc 8 ∷ pos 0 ∷ negsuc 2 ∷ negsuc 6 ∷ pos 9 ∷ pos 0 ∷ pos 4 ∷ negsuc 2 ∷ negsuc 1 ∷ negsuc 9 ∷ pos 0 ∷ pos 4 ∷ negsuc 2 ∷ pos 2 ∷ pos 10 ∷ pos 0 ∷ pos 4 ∷ pos 3 ∷ negsuc 1 ∷ pos 10 ∷ pos 0 ∷ pos 4 ∷ pos 3 ∷ pos 2 ∷ negsuc 9 ∷ pos 0 ∷ negsuc 3 ∷ negsuc 2 ∷ negsuc 1 ∷ pos 10 ∷ pos 0 ∷ negsuc 3 ∷ negsuc 2 ∷ pos 2 ∷ negsuc 9 ∷ pos 0 ∷ negsuc 3 ∷ pos 3 ∷ negsuc 1 ∷ negsuc 9 ∷ pos 0 ∷ negsuc 3 ∷ pos 3 ∷ pos 2 ∷ pos 10 ∷ pos 0 ∷ pos 4 ∷ negsuc 2 ∷ negsuc 10 ∷ pos 0 ∷ pos 4 ∷ negsuc 1 ∷ negsuc 10 ∷ pos 0 ∷ negsuc 2 ∷ negsuc 1 ∷ negsuc 10 ∷ pos 0 ∷ negsuc 3 ∷ pos 3 ∷ pos 11 ∷ pos 0 ∷ negsuc 3 ∷ pos 2 ∷ pos 11 ∷ pos 0 ∷ pos 3 ∷ pos 2 ∷ pos 11 ∷ pos 0 ∷ pos 6 ∷ pos 11 ∷ pos 12 ∷ pos 0 ∷ pos 6 ∷ negsuc 10 ∷ negsuc 11 ∷ pos 0 ∷ negsuc 5 ∷ pos 11 ∷ negsuc 11 ∷ pos 0 ∷ negsuc 5 ∷ negsuc 10 ∷ pos 12 ∷ pos 0 ∷ negsuc 5 ∷ pos 13 ∷ pos 0 ∷ negsuc 10 ∷ pos 13 ∷ pos 0 ∷ pos 6 ∷ pos 11 ∷ negsuc 12 ∷ pos 0 ∷ pos 8 ∷ pos 13 ∷ pos 14 ∷ pos 0 ∷ pos 8 ∷ negsuc 12 ∷ negsuc 13 ∷ pos 0 ∷ negsuc 7 ∷ pos 13 ∷ negsuc 13 ∷ pos 0 ∷ negsuc 7 ∷ negsuc 12 ∷ pos 14 ∷ pos 0 ∷ negsuc 7 ∷ pos 15 ∷ pos 0 ∷ negsuc 12 ∷ pos 15 ∷ pos 0 ∷ pos 8 ∷ pos 13 ∷ negsuc 14 ∷ pos 0 ∷ pos 9 ∷ pos 15 ∷ pos 16 ∷ pos 0 ∷ pos 9 ∷ negsuc 14 ∷ negsuc 15 ∷ pos 0 ∷ negsuc 8 ∷ pos 15 ∷ negsuc 15 ∷ pos 0 ∷ negsuc 8 ∷ negsuc 14 ∷ pos 16 ∷ pos 0 ∷ pos 7 ∷ pos 7 ∷ pos 7 ∷ [] }
           ∷ record { c = 3; w = 2; recipe = 32 ∷ 8 ∷ 0 ∷ 0 ∷ 5 ∷ 64 ∷ 8 ∷ 0 ∷ 0 ∷ 3 ∷ 32 ∷ 4 ∷ 0 ∷ 0 ∷ 3 ∷ []; bits = 6; clauses = 123; bit-room = pos 1 ∷ pos 8 ∷ pos 10 ∷ pos 11 ∷ pos 7 ∷ pos 7 ∷ []; clause-room = negsuc 1 ∷ negsuc 0 ∷ negsuc 2 ∷ pos 0 ∷ negsuc 1 ∷ pos 1 ∷ pos 3 ∷ pos 0 ∷ pos 2 ∷ negsuc 0 ∷ pos 3 ∷ pos 0 ∷ pos 2 ∷ pos 1 ∷ negsuc 2 ∷ pos 0 ∷ negsuc 1 ∷ negsuc 3 ∷ pos 0 ∷ negsuc 0 ∷ negsuc 3 ∷ pos 0 ∷ pos 2 ∷ pos 1 ∷ pos 4 ∷ pos 0 ∷ pos 1 ∷ pos 4 ∷ pos 5 ∷ pos 0 ∷ pos 1 ∷ negsuc 3 ∷ negsuc 4 ∷ pos 0 ∷ negsuc 0 ∷ pos 4 ∷ negsuc 4 ∷ pos 0 ∷ negsuc 0 ∷ negsuc 3 ∷ pos 5 ∷ pos 0 ∷ negsuc 0 ∷ pos 6 ∷ pos 0 ∷ negsuc 3 ∷ pos 6 ∷ pos 0 ∷ pos 1 ∷ pos 4 ∷ negsuc 5 ∷ pos 0 ∷ pos 2 ∷ pos 6 ∷ pos 7 ∷ pos 0 ∷ pos 2 ∷ negsuc 5 ∷ negsuc 6 ∷ pos 0 ∷ negsuc 1 ∷ pos 6 ∷ negsuc 6 ∷ pos 0 ∷ negsuc 1 ∷ negsuc 5 ∷ pos 7 ∷ pos 0 ∷ pos 1 ∷ pos 2 ∷ negsuc 7 ∷ pos 0 ∷ pos 1 ∷ negsuc 1 ∷ pos 8 ∷ pos 0 ∷ negsuc 0 ∷ pos 2 ∷ pos 8 ∷ pos 0 ∷ negsuc 0 ∷ negsuc 1 ∷ negsuc 7 ∷ pos 0 ∷ pos 1 ∷ negsuc 8 ∷ pos 0 ∷ pos 2 ∷ negsuc 8 ∷ pos 0 ∷ negsuc 0 ∷ negsuc 1 ∷ pos 9 ∷ pos 0 ∷ pos 2 ∷ pos 9 ∷ negsuc 9 ∷ pos 0 ∷ pos 2 ∷ negsuc 8 ∷ pos 10 ∷ pos 0 ∷ negsuc 1 ∷ pos 9 ∷ pos 10 ∷ pos 0 ∷ negsuc 1 ∷ negsuc 8 ∷ negsuc 9 ∷ pos 0 ∷ pos 2 ∷ negsuc 10 ∷ pos 0 ∷ pos 9 ∷ negsuc 10 ∷ pos 0 ∷ negsuc 1 ∷ negsuc 8 ∷ pos 11 ∷ pos 0 ∷ pos 7 ∷ pos 7 ∷ pos 7 ∷ [] }
-          ∷ record { c = 20; w = 1; recipe = 32 ∷ 8 ∷ 0 ∷ 0 ∷ 5 ∷ 96 ∷ 132 ∷ 0 ∷ 0 ∷ 3 ∷ 65 ∷ 4 ∷ 0 ∷ 0 ∷ 5 ∷ []; bits = 7; clauses = 45; bit-room = pos 0 ∷ pos 0 ∷ pos 1 ∷ pos 2 ∷ pos 4 ∷ pos 7 ∷ pos 7 ∷ []; clause-room = pos 1 ∷ negsuc 0 ∷ pos 2 ∷ pos 0 ∷ pos 1 ∷ pos 1 ∷ negsuc 1 ∷ pos 0 ∷ negsuc 0 ∷ negsuc 0 ∷ negsuc 1 ∷ pos 0 ∷ negsuc 0 ∷ pos 1 ∷ pos 2 ∷ pos 0 ∷ negsuc 0 ∷ pos 3 ∷ pos 0 ∷ pos 1 ∷ pos 3 ∷ pos 0 ∷ pos 1 ∷ negsuc 0 ∷ negsuc 2 ∷ pos 0 ∷ pos 1 ∷ pos 3 ∷ pos 4 ∷ pos 0 ∷ pos 1 ∷ negsuc 2 ∷ negsuc 3 ∷ pos 0 ∷ negsuc 0 ∷ pos 3 ∷ negsuc 3 ∷ pos 0 ∷ negsuc 0 ∷ negsuc 2 ∷ pos 4 ∷ pos 0 ∷ pos 7 ∷ pos 7 ∷ pos 7 ∷ [] }
+          ∷ record { c = 20; w = 1; recipe = 32 ∷ 8 ∷ 0 ∷ 0 ∷ 5 ∷ 96 ∷ 132 ∷ 0 ∷ 0 ∷ 3 ∷ 65 ∷ 4 ∷ 0 ∷ 0 ∷ 5 ∷ []; bits = 7; clauses = 3; bit-room = pos 0 ∷ pos 0 ∷ pos 1 ∷ pos 0 ∷ pos 1 ∷ pos 7 ∷ pos 7 ∷ []; clause-room = pos 7 ∷ pos 7 ∷ pos 7 ∷ [] }
           ∷ record { c = 3; w = 2; recipe = 32 ∷ 4 ∷ 0 ∷ 0 ∷ 3 ∷ []; bits = 4; clauses = 5; bit-room = pos 7 ∷ pos 7 ∷ pos 7 ∷ pos 7 ∷ []; clause-room = pos 7 ∷ pos 7 ∷ pos 7 ∷ pos 7 ∷ pos 7 ∷ [] }
           ∷ record { c = 3; w = 2; recipe = 32 ∷ 4 ∷ 0 ∷ 0 ∷ 3 ∷ []; bits = 3; clauses = 52; bit-room = pos 7 ∷ pos 7 ∷ pos 7 ∷ []; clause-room = pos 7 ∷ pos 7 ∷ pos 7 ∷ pos 7 ∷ pos 7 ∷ pos 7 ∷ pos 7 ∷ pos 7 ∷ pos 7 ∷ pos 7 ∷ pos 7 ∷ pos 7 ∷ pos 7 ∷ pos 7 ∷ pos 7 ∷ pos 7 ∷ pos 7 ∷ pos 7 ∷ pos 7 ∷ pos 7 ∷ pos 7 ∷ pos 7 ∷ pos 7 ∷ pos 7 ∷ pos 7 ∷ pos 7 ∷ pos 7 ∷ pos 7 ∷ pos 7 ∷ pos 7 ∷ pos 7 ∷ pos 7 ∷ pos 7 ∷ pos 7 ∷ pos 7 ∷ pos 7 ∷ pos 7 ∷ pos 7 ∷ pos 7 ∷ pos 7 ∷ pos 7 ∷ pos 7 ∷ pos 7 ∷ pos 7 ∷ pos 7 ∷ pos 7 ∷ pos 7 ∷ pos 7 ∷ pos 7 ∷ pos 7 ∷ pos 7 ∷ pos 7 ∷ [] }
           ∷ [];
@@ -206,8 +206,17 @@ agreed =
           ∷ record { x = negsuc 2 ∷ negsuc 899999 ∷ []; first = 900001; call = record { c = 6; w = 2; recipe = 32 ∷ 4 ∷ 0 ∷ 0 ∷ 3 ∷ []; bits = 5; clauses = 52; number = 0; words-used = 52; clauses-written = 14; next = 900005; y = pos 0 ∷ negsuc 2 ∷ pos 900001 ∷ pos 900003 ∷ pos 900004 ∷ [] } }
           ∷ record { x = negsuc 1 ∷ pos 1 ∷ []; first = 3; call = record { c = 5; w = 2; recipe = 32 ∷ 8 ∷ 0 ∷ 0 ∷ 5 ∷ []; bits = 4; clauses = 0; number = 0; words-used = 0; clauses-written = 0; next = 3; y = negsuc 1 ∷ pos 1 ∷ negsuc 1 ∷ pos 1 ∷ [] } }
           ∷ record { x = negsuc 3 ∷ []; first = 9; call = record { c = 7; w = 1; recipe = 64 ∷ 12 ∷ 0 ∷ 0 ∷ 7 ∷ []; bits = 3; clauses = 0; number = 0; words-used = 0; clauses-written = 0; next = 9; y = negsuc 3 ∷ negsuc 3 ∷ negsuc 3 ∷ [] } }
-          ∷ record { x = negsuc 2147483643 ∷ []; first = 2147483645; call = record { c = 5; w = 1; recipe = 32 ∷ 4 ∷ 0 ∷ 0 ∷ 3 ∷ 64 ∷ 132 ∷ 0 ∷ 0 ∷ 5 ∷ []; bits = 3; clauses = 42; number = 0; words-used = 42; clauses-written = 11; next = 2147483648; y = negsuc 2147483643 ∷ pos 2147483645 ∷ pos 2147483647 ∷ [] } }
+          ∷ record { x = negsuc 2147483646 ∷ []; first = 2147483648; call = record { c = 5; w = 1; recipe = 32 ∷ 4 ∷ 0 ∷ 0 ∷ 3 ∷ 64 ∷ 132 ∷ 0 ∷ 0 ∷ 5 ∷ []; bits = 3; clauses = 0; number = 0; words-used = 0; clauses-written = 0; next = 2147483648; y = negsuc 2147483646 ∷ pos 0 ∷ negsuc 2147483646 ∷ [] } }
           ∷ record { x = pos 3 ∷ negsuc 0 ∷ []; first = 4; call = record { c = 59; w = 2; recipe = 64 ∷ 24 ∷ 0 ∷ 0 ∷ 63 ∷ 96 ∷ 136 ∷ 0 ∷ 0 ∷ 59 ∷ []; bits = 8; clauses = 252; number = 0; words-used = 252; clauses-written = 64; next = 20; y = pos 3 ∷ pos 4 ∷ pos 9 ∷ pos 11 ∷ pos 13 ∷ pos 15 ∷ pos 17 ∷ pos 19 ∷ [] } }
+          ∷ record { x = negsuc 0 ∷ []; first = 2; call = record { c = 21; w = 1; recipe = 64 ∷ 12 ∷ 0 ∷ 0 ∷ 7 ∷ 32 ∷ 132 ∷ 16 ∷ 0 ∷ 21 ∷ []; bits = 5; clauses = 0; number = 0; words-used = 0; clauses-written = 0; next = 2; y = negsuc 0 ∷ pos 0 ∷ negsuc 0 ∷ pos 0 ∷ negsuc 0 ∷ [] } }
+          ∷ record { x = pos 2 ∷ []; first = 3; call = record { c = 5; w = 1; recipe = 32 ∷ 4 ∷ 0 ∷ 0 ∷ 3 ∷ 64 ∷ 12 ∷ 16 ∷ 0 ∷ 5 ∷ []; bits = 3; clauses = 0; number = 0; words-used = 0; clauses-written = 0; next = 3; y = pos 2 ∷ pos 0 ∷ pos 2 ∷ [] } }
+          ∷ record { x = negsuc 5 ∷ []; first = 9; call = record { c = 5; w = 1; recipe = 64 ∷ 12 ∷ 0 ∷ 0 ∷ 7 ∷ 96 ∷ 132 ∷ 0 ∷ 0 ∷ 5 ∷ []; bits = 3; clauses = 0; number = 0; words-used = 0; clauses-written = 0; next = 9; y = negsuc 5 ∷ pos 0 ∷ negsuc 5 ∷ [] } }
+          ∷ record { x = negsuc 2 ∷ []; first = 4; call = record { c = 14; w = 1; recipe = 64 ∷ 12 ∷ 0 ∷ 0 ∷ 7 ∷ 64 ∷ 132 ∷ 16 ∷ 0 ∷ 7 ∷ []; bits = 4; clauses = 0; number = 0; words-used = 0; clauses-written = 0; next = 4; y = pos 0 ∷ negsuc 2 ∷ negsuc 2 ∷ negsuc 2 ∷ [] } }
+          ∷ record { x = negsuc 1 ∷ pos 1 ∷ []; first = 3; call = record { c = 9; w = 2; recipe = 32 ∷ 8 ∷ 0 ∷ 0 ∷ 5 ∷ 32 ∷ 8 ∷ 16 ∷ 0 ∷ 9 ∷ []; bits = 5; clauses = 0; number = 0; words-used = 0; clauses-written = 0; next = 3; y = negsuc 1 ∷ pos 1 ∷ pos 0 ∷ negsuc 1 ∷ pos 1 ∷ [] } }
+          ∷ record { x = pos 2 ∷ negsuc 0 ∷ negsuc 2 ∷ []; first = 4; call = record { c = 1; w = 3; recipe = 64 ∷ 4 ∷ 0 ∷ 0 ∷ 1 ∷ []; bits = 3; clauses = 0; number = 0; words-used = 0; clauses-written = 0; next = 4; y = pos 2 ∷ negsuc 0 ∷ negsuc 2 ∷ [] } }
+          ∷ record { x = pos 5 ∷ negsuc 2 ∷ []; first = 8; call = record { c = 15; w = 2; recipe = 32 ∷ 8 ∷ 0 ∷ 0 ∷ 5 ∷ 64 ∷ 136 ∷ 16 ∷ 0 ∷ 15 ∷ []; bits = 6; clauses = 68; number = 0; words-used = 68; clauses-written = 18; next = 13; y = pos 5 ∷ pos 8 ∷ negsuc 8 ∷ negsuc 8 ∷ pos 10 ∷ pos 12 ∷ [] } }
+          ∷ record { x = negsuc 0 ∷ pos 2 ∷ []; first = 3; call = record { c = 567; w = 2; recipe = 64 ∷ 24 ∷ 0 ∷ 0 ∷ 63 ∷ 32 ∷ 136 ∷ 16 ∷ 1 ∷ 59 ∷ 65 ∷ 4 ∷ 16 ∷ 2 ∷ 55 ∷ []; bits = 11; clauses = 200; number = 0; words-used = 200; clauses-written = 50; next = 15; y = negsuc 0 ∷ pos 3 ∷ negsuc 3 ∷ pos 8 ∷ pos 10 ∷ pos 11 ∷ pos 5 ∷ pos 7 ∷ pos 0 ∷ pos 12 ∷ pos 14 ∷ [] } }
+          ∷ record { x = negsuc 1 ∷ negsuc 0 ∷ []; first = 3; call = record { c = 7; w = 2; recipe = 64 ∷ 20 ∷ 0 ∷ 0 ∷ 31 ∷ 96 ∷ 144 ∷ 0 ∷ 0 ∷ 15 ∷ 32 ∷ 8 ∷ 32 ∷ 0 ∷ 19 ∷ 65 ∷ 132 ∷ 16 ∷ 0 ∷ 7 ∷ []; bits = 5; clauses = 266; number = 0; words-used = 266; clauses-written = 65; next = 18; y = negsuc 1 ∷ pos 3 ∷ negsuc 3 ∷ pos 11 ∷ pos 13 ∷ [] } }
           ∷ record { x = []; first = 9; call = record { c = 3; w = 2; recipe = 32 ∷ 4 ∷ 0 ∷ 0 ∷ 3 ∷ []; bits = 4; clauses = 52; number = 14; words-used = 0; clauses-written = 0; next = 0; y = [] } }
           ∷ record { x = pos 1 ∷ []; first = 9; call = record { c = 3; w = 2; recipe = 32 ∷ 4 ∷ 0 ∷ 0 ∷ 3 ∷ []; bits = 4; clauses = 52; number = 14; words-used = 0; clauses-written = 0; next = 0; y = [] } }
           ∷ record { x = pos 1 ∷ negsuc 1 ∷ pos 3 ∷ []; first = 9; call = record { c = 3; w = 2; recipe = 32 ∷ 4 ∷ 0 ∷ 0 ∷ 3 ∷ []; bits = 4; clauses = 52; number = 14; words-used = 0; clauses-written = 0; next = 0; y = [] } }
@@ -251,12 +260,14 @@ agreed =
           ∷ record { x = pos 1 ∷ negsuc 1 ∷ []; first = 2147483648; call = record { c = 3; w = 2; recipe = 32 ∷ 4 ∷ 0 ∷ 0 ∷ 3 ∷ []; bits = 4; clauses = 51; number = 15; words-used = 0; clauses-written = 0; next = 0; y = [] } }
           ∷ record { x = pos 1 ∷ negsuc 1 ∷ []; first = 3; call = record { c = 3; w = 2; recipe = 32 ∷ 4 ∷ 0 ∷ 0 ∷ 3 ∷ []; bits = 3; clauses = 51; number = 9; words-used = 0; clauses-written = 0; next = 0; y = [] } }
           ∷ record { x = pos 1 ∷ negsuc 1 ∷ []; first = 3; call = record { c = 3; w = 2; recipe = 32 ∷ 4 ∷ 0 ∷ 0 ∷ 3 ∷ []; bits = 4; clauses = 51; number = 10; words-used = 0; clauses-written = 0; next = 0; y = [] } }
+          ∷ record { x = pos 1 ∷ negsuc 1 ∷ []; first = 3; call = record { c = 15; w = 2; recipe = 32 ∷ 8 ∷ 0 ∷ 0 ∷ 5 ∷ 64 ∷ 136 ∷ 16 ∷ 0 ∷ 15 ∷ []; bits = 6; clauses = 67; number = 10; words-used = 0; clauses-written = 0; next = 0; y = [] } }
           ∷ [];
       given-rooms =
           record { x = negsuc 0 ∷ pos 2 ∷ []; first = 3; call = record { c = 3; w = 2; recipe = 32 ∷ 4 ∷ 0 ∷ 0 ∷ 3 ∷ []; bits = 6; clauses = 55; bit-room = negsuc 0 ∷ pos 3 ∷ pos 5 ∷ pos 6 ∷ pos 7 ∷ pos 7 ∷ []; clause-room = negsuc 0 ∷ pos 2 ∷ negsuc 2 ∷ pos 0 ∷ negsuc 0 ∷ negsuc 1 ∷ pos 3 ∷ pos 0 ∷ pos 1 ∷ pos 2 ∷ pos 3 ∷ pos 0 ∷ pos 1 ∷ negsuc 1 ∷ negsuc 2 ∷ pos 0 ∷ negsuc 0 ∷ negsuc 3 ∷ pos 0 ∷ pos 2 ∷ negsuc 3 ∷ pos 0 ∷ pos 1 ∷ negsuc 1 ∷ pos 4 ∷ pos 0 ∷ pos 2 ∷ pos 4 ∷ negsuc 4 ∷ pos 0 ∷ pos 2 ∷ negsuc 3 ∷ pos 5 ∷ pos 0 ∷ negsuc 1 ∷ pos 4 ∷ pos 5 ∷ pos 0 ∷ negsuc 1 ∷ negsuc 3 ∷ negsuc 4 ∷ pos 0 ∷ pos 2 ∷ negsuc 5 ∷ pos 0 ∷ pos 4 ∷ negsuc 5 ∷ pos 0 ∷ negsuc 1 ∷ negsuc 3 ∷ pos 6 ∷ pos 0 ∷ pos 7 ∷ pos 7 ∷ pos 7 ∷ [] } }
           ∷ record { x = negsuc 4 ∷ negsuc 2147483642 ∷ []; first = 2147483644; call = record { c = 3; w = 2; recipe = 32 ∷ 4 ∷ 0 ∷ 0 ∷ 3 ∷ []; bits = 6; clauses = 55; bit-room = negsuc 4 ∷ pos 2147483644 ∷ pos 2147483646 ∷ pos 2147483647 ∷ pos 7 ∷ pos 7 ∷ []; clause-room = negsuc 4 ∷ negsuc 2147483642 ∷ negsuc 2147483643 ∷ pos 0 ∷ negsuc 4 ∷ pos 2147483643 ∷ pos 2147483644 ∷ pos 0 ∷ pos 5 ∷ negsuc 2147483642 ∷ pos 2147483644 ∷ pos 0 ∷ pos 5 ∷ pos 2147483643 ∷ negsuc 2147483643 ∷ pos 0 ∷ negsuc 4 ∷ negsuc 2147483644 ∷ pos 0 ∷ negsuc 2147483642 ∷ negsuc 2147483644 ∷ pos 0 ∷ pos 5 ∷ pos 2147483643 ∷ pos 2147483645 ∷ pos 0 ∷ negsuc 2147483642 ∷ pos 2147483645 ∷ negsuc 2147483645 ∷ pos 0 ∷ negsuc 2147483642 ∷ negsuc 2147483644 ∷ pos 2147483646 ∷ pos 0 ∷ pos 2147483643 ∷ pos 2147483645 ∷ pos 2147483646 ∷ pos 0 ∷ pos 2147483643 ∷ negsuc 2147483644 ∷ negsuc 2147483645 ∷ pos 0 ∷ negsuc 2147483642 ∷ negsuc 2147483646 ∷ pos 0 ∷ pos 2147483645 ∷ negsuc 2147483646 ∷ pos 0 ∷ pos 2147483643 ∷ negsuc 2147483644 ∷ pos 2147483647 ∷ pos 0 ∷ pos 7 ∷ pos 7 ∷ pos 7 ∷ [] } }
           ∷ record { x = pos 40 ∷ negsuc 16 ∷ []; first = 900; call = record { c = 6; w = 2; recipe = 32 ∷ 4 ∷ 0 ∷ 0 ∷ 3 ∷ []; bits = 7; clauses = 55; bit-room = pos 0 ∷ pos 40 ∷ pos 900 ∷ pos 902 ∷ pos 903 ∷ pos 7 ∷ pos 7 ∷ []; clause-room = pos 40 ∷ negsuc 16 ∷ negsuc 899 ∷ pos 0 ∷ pos 40 ∷ pos 17 ∷ pos 900 ∷ pos 0 ∷ negsuc 39 ∷ negsuc 16 ∷ pos 900 ∷ pos 0 ∷ negsuc 39 ∷ pos 17 ∷ negsuc 899 ∷ pos 0 ∷ pos 40 ∷ negsuc 900 ∷ pos 0 ∷ negsuc 16 ∷ negsuc 900 ∷ pos 0 ∷ negsuc 39 ∷ pos 17 ∷ pos 901 ∷ pos 0 ∷ negsuc 16 ∷ pos 901 ∷ negsuc 901 ∷ pos 0 ∷ negsuc 16 ∷ negsuc 900 ∷ pos 902 ∷ pos 0 ∷ pos 17 ∷ pos 901 ∷ pos 902 ∷ pos 0 ∷ pos 17 ∷ negsuc 900 ∷ negsuc 901 ∷ pos 0 ∷ negsuc 16 ∷ negsuc 902 ∷ pos 0 ∷ pos 901 ∷ negsuc 902 ∷ pos 0 ∷ pos 17 ∷ negsuc 900 ∷ pos 903 ∷ pos 0 ∷ pos 7 ∷ pos 7 ∷ pos 7 ∷ [] } }
-          ∷ record { x = negsuc 8 ∷ []; first = 12; call = record { c = 5; w = 1; recipe = 32 ∷ 4 ∷ 0 ∷ 0 ∷ 3 ∷ 64 ∷ 132 ∷ 0 ∷ 0 ∷ 5 ∷ []; bits = 5; clauses = 45; bit-room = negsuc 8 ∷ pos 12 ∷ pos 14 ∷ pos 7 ∷ pos 7 ∷ []; clause-room = negsuc 8 ∷ pos 9 ∷ pos 12 ∷ pos 0 ∷ negsuc 8 ∷ negsuc 8 ∷ negsuc 11 ∷ pos 0 ∷ pos 9 ∷ pos 9 ∷ negsuc 11 ∷ pos 0 ∷ pos 9 ∷ negsuc 8 ∷ pos 12 ∷ pos 0 ∷ pos 9 ∷ pos 13 ∷ pos 0 ∷ negsuc 8 ∷ pos 13 ∷ pos 0 ∷ negsuc 8 ∷ pos 9 ∷ negsuc 12 ∷ pos 0 ∷ negsuc 8 ∷ pos 13 ∷ pos 14 ∷ pos 0 ∷ negsuc 8 ∷ negsuc 12 ∷ negsuc 13 ∷ pos 0 ∷ pos 9 ∷ pos 13 ∷ negsuc 13 ∷ pos 0 ∷ pos 9 ∷ negsuc 12 ∷ pos 14 ∷ pos 0 ∷ pos 7 ∷ pos 7 ∷ pos 7 ∷ [] } }
+          ∷ record { x = negsuc 8 ∷ []; first = 12; call = record { c = 5; w = 1; recipe = 32 ∷ 4 ∷ 0 ∷ 0 ∷ 3 ∷ 64 ∷ 132 ∷ 0 ∷ 0 ∷ 5 ∷ []; bits = 5; clauses = 3; bit-room = negsuc 8 ∷ pos 0 ∷ negsuc 8 ∷ pos 7 ∷ pos 7 ∷ []; clause-room = pos 7 ∷ pos 7 ∷ pos 7 ∷ [] } }
+          ∷ record { x = negsuc 8 ∷ pos 4 ∷ []; first = 12; call = record { c = 15; w = 2; recipe = 32 ∷ 8 ∷ 0 ∷ 0 ∷ 5 ∷ 64 ∷ 136 ∷ 16 ∷ 0 ∷ 15 ∷ []; bits = 8; clauses = 71; bit-room = negsuc 8 ∷ pos 12 ∷ negsuc 12 ∷ negsuc 12 ∷ pos 14 ∷ pos 16 ∷ pos 7 ∷ pos 7 ∷ []; clause-room = negsuc 3 ∷ pos 9 ∷ negsuc 11 ∷ pos 0 ∷ negsuc 3 ∷ negsuc 8 ∷ pos 12 ∷ pos 0 ∷ pos 4 ∷ pos 9 ∷ pos 12 ∷ pos 0 ∷ pos 4 ∷ negsuc 8 ∷ negsuc 11 ∷ pos 0 ∷ negsuc 3 ∷ negsuc 12 ∷ pos 0 ∷ pos 9 ∷ negsuc 12 ∷ pos 0 ∷ pos 4 ∷ negsuc 8 ∷ pos 13 ∷ pos 0 ∷ negsuc 8 ∷ pos 13 ∷ pos 14 ∷ pos 0 ∷ negsuc 8 ∷ negsuc 12 ∷ negsuc 13 ∷ pos 0 ∷ pos 9 ∷ pos 13 ∷ negsuc 13 ∷ pos 0 ∷ pos 9 ∷ negsuc 12 ∷ pos 14 ∷ pos 0 ∷ pos 9 ∷ pos 15 ∷ pos 0 ∷ negsuc 12 ∷ pos 15 ∷ pos 0 ∷ negsuc 8 ∷ pos 13 ∷ negsuc 14 ∷ pos 0 ∷ pos 4 ∷ pos 15 ∷ pos 16 ∷ pos 0 ∷ pos 4 ∷ negsuc 14 ∷ negsuc 15 ∷ pos 0 ∷ negsuc 3 ∷ pos 15 ∷ negsuc 15 ∷ pos 0 ∷ negsuc 3 ∷ negsuc 14 ∷ pos 16 ∷ pos 0 ∷ pos 7 ∷ pos 7 ∷ pos 7 ∷ [] } }
           ∷ record { x = negsuc 4 ∷ pos 4 ∷ []; first = 2147483645; call = record { c = 3; w = 2; recipe = 32 ∷ 4 ∷ 0 ∷ 0 ∷ 3 ∷ []; bits = 6; clauses = 55; bit-room = pos 7 ∷ pos 7 ∷ pos 7 ∷ pos 7 ∷ pos 7 ∷ pos 7 ∷ []; clause-room = pos 7 ∷ pos 7 ∷ pos 7 ∷ pos 7 ∷ pos 7 ∷ pos 7 ∷ pos 7 ∷ pos 7 ∷ pos 7 ∷ pos 7 ∷ pos 7 ∷ pos 7 ∷ pos 7 ∷ pos 7 ∷ pos 7 ∷ pos 7 ∷ pos 7 ∷ pos 7 ∷ pos 7 ∷ pos 7 ∷ pos 7 ∷ pos 7 ∷ pos 7 ∷ pos 7 ∷ pos 7 ∷ pos 7 ∷ pos 7 ∷ pos 7 ∷ pos 7 ∷ pos 7 ∷ pos 7 ∷ pos 7 ∷ pos 7 ∷ pos 7 ∷ pos 7 ∷ pos 7 ∷ pos 7 ∷ pos 7 ∷ pos 7 ∷ pos 7 ∷ pos 7 ∷ pos 7 ∷ pos 7 ∷ pos 7 ∷ pos 7 ∷ pos 7 ∷ pos 7 ∷ pos 7 ∷ pos 7 ∷ pos 7 ∷ pos 7 ∷ pos 7 ∷ pos 7 ∷ pos 7 ∷ pos 7 ∷ [] } }
           ∷ record { x = negsuc 3 ∷ pos 4 ∷ []; first = 5; call = record { c = 3; w = 2; recipe = 32 ∷ 4 ∷ 0 ∷ 0 ∷ 3 ∷ []; bits = 6; clauses = 55; bit-room = pos 7 ∷ pos 7 ∷ pos 7 ∷ pos 7 ∷ pos 7 ∷ pos 7 ∷ []; clause-room = pos 7 ∷ pos 7 ∷ pos 7 ∷ pos 7 ∷ pos 7 ∷ pos 7 ∷ pos 7 ∷ pos 7 ∷ pos 7 ∷ pos 7 ∷ pos 7 ∷ pos 7 ∷ pos 7 ∷ pos 7 ∷ pos 7 ∷ pos 7 ∷ pos 7 ∷ pos 7 ∷ pos 7 ∷ pos 7 ∷ pos 7 ∷ pos 7 ∷ pos 7 ∷ pos 7 ∷ pos 7 ∷ pos 7 ∷ pos 7 ∷ pos 7 ∷ pos 7 ∷ pos 7 ∷ pos 7 ∷ pos 7 ∷ pos 7 ∷ pos 7 ∷ pos 7 ∷ pos 7 ∷ pos 7 ∷ pos 7 ∷ pos 7 ∷ pos 7 ∷ pos 7 ∷ pos 7 ∷ pos 7 ∷ pos 7 ∷ pos 7 ∷ pos 7 ∷ pos 7 ∷ pos 7 ∷ pos 7 ∷ pos 7 ∷ pos 7 ∷ pos 7 ∷ pos 7 ∷ pos 7 ∷ pos 7 ∷ [] } }
           ∷ [];

@@ -1,4 +1,5 @@
--- Document 01's "Sums done on the bench": those marked P, row by row. Where it tells the highest variable, the next free number is one more.
+-- Document 01's "Sums done on the bench": those marked P, row by row; the last of writing as request b has it.
+-- Where it tells the highest variable, the next free number is one more.
 use mathlib.Core.List.{List, [], _∷_}
 use lib.IntN.{ℤ, pos}
 use Rattle.cases.specs.Table.{Table}
@@ -30,7 +31,7 @@ bench =
           record { c = 5; w = 2; recipe = 0x20 ∷ 0x08 ∷ 0x00 ∷ 0x00 ∷ 0x05 ∷ []; bits = 4; clauses = 0; number = 0; words-used = 0; clauses-written = 0; next = 3; y = pos 1 ∷ pos 2 ∷ pos 1 ∷ pos 2 ∷ [] }
           ∷ record { c = 7; w = 1; recipe = 0x40 ∷ 0x0C ∷ 0x00 ∷ 0x00 ∷ 0x07 ∷ []; bits = 3; clauses = 0; number = 0; words-used = 0; clauses-written = 0; next = 2; y = pos 1 ∷ pos 1 ∷ pos 1 ∷ [] }
           ∷ record { c = 6; w = 2; recipe = 0x20 ∷ 0x04 ∷ 0x00 ∷ 0x00 ∷ 0x03 ∷ []; bits = 5; clauses = 52; number = 0; words-used = 52; clauses-written = 14; next = 7; y = pos 0 ∷ pos 1 ∷ pos 3 ∷ pos 5 ∷ pos 6 ∷ [] }
-          ∷ record { c = 5; w = 1; recipe = 0x20 ∷ 0x04 ∷ 0x00 ∷ 0x00 ∷ 0x03 ∷ 0x40 ∷ 0x84 ∷ 0x00 ∷ 0x00 ∷ 0x05 ∷ []; bits = 3; clauses = 42; number = 0; words-used = 42; clauses-written = 11; next = 5; y = pos 1 ∷ pos 2 ∷ pos 4 ∷ [] }
+          ∷ record { c = 5; w = 1; recipe = 0x20 ∷ 0x04 ∷ 0x00 ∷ 0x00 ∷ 0x03 ∷ 0x40 ∷ 0x84 ∷ 0x00 ∷ 0x00 ∷ 0x05 ∷ []; bits = 3; clauses = 0; number = 0; words-used = 0; clauses-written = 0; next = 2; y = pos 1 ∷ pos 0 ∷ pos 1 ∷ [] }
           ∷ [];
       write-rooms = [];
       given = [];

@@ -4,7 +4,7 @@
 -- hold exactly when n has the value that a function of the variables below n gives (`step`). Steps in a row extend every assignment of
 -- the variables below the first to exactly one below the last that satisfies all clauses (`extends-append`, `extends-nil`). The steps
 -- themselves are kept (`steps`), for whoever asks more of them: unit propagation goes step by step (crates/propagate).
--- Nothing here asks which function it is, or whether two literals of a clause name one variable.
+-- Nothing here asks which function it is. No clause of a step names a variable twice, so none of steps in a row does (`distinct`).
 use Prim.Native.Nat.{ℕ, suc, _≤_, _<_, max}
 use mathlib.Core.Path.{_≡_, refl, sym, ap, ap₂, _∙_, subst}
 use mathlib.Core.Logic.{_⊎_, inl, inr, ⊎-elim}
@@ -13,9 +13,9 @@ use mathlib.Core.List.{List, [], _∷_, _++_, append-nil, append-assoc}
 use native.Mathlib.Decide.{ℕ-discrete}
 use native.Mathlib.Nat.{le-refl, le-suc, eq-or-lt-of-le, le-of-suc-le-suc, max-eq-left, max-eq-right}
 use native.Mathlib.Omega.{arith}
-use borrow.Author.Tests.{eqb-true, eqb-false}
+use borrow.Author.Tests.{eq-eqb, eqb-true, eqb-false}
 use lib.Dec.{eqb}
-use Rattle.cnf.specs.Clause.{Literal, Clause, Assignment, flips, value, holds, satisfies, clause-names, clauses-name}
+use Rattle.cnf.specs.Clause.{Literal, Clause, Assignment, flips, negation, value, holds, satisfies, clause-names, clauses-name, Distinct, All-distinct, Stands-in}
 
 -- ---- clauses in a row
 
@@ -52,6 +52,10 @@ joined (cs ∷ css) = cs ++ joined css
 joined-append : (css dss : List (List Clause)) → joined (css ++ dss) ≡ joined css ++ joined dss
 joined-append [] dss = refl
 joined-append (cs ∷ css) dss = ap (λ (ds : List Clause). cs ++ ds) (joined-append css dss) ∙ sym (append-assoc cs (joined css) (joined dss))
+
+pub all-distinct-append : (cs ds : List Clause) → All-distinct cs → All-distinct ds → All-distinct (cs ++ ds)
+all-distinct-append [] ds s t = t
+all-distinct-append (c ∷ cs) ds s t = (s .0, all-distinct-append cs ds (s .1) t)
 
 -- ---- the first number past n and past every variable that is named
 
@@ -195,13 +199,14 @@ module _ (Used : ℕ → Type 0) where
   steps-append a b c (cs ∷ css) dss s t = (s .0, steps-append (suc a) b c css dss (s .1) t)
 
   -- every assignment below a extends to exactly one below b that satisfies cs; cs names variables below b only, and the highest of them
-  -- where b is above a; and cs are steps
+  -- where b is above a; no clause names one twice; and cs are steps
   pub record Extends (a b : ℕ) (cs : List Clause) : Type 0 where
     pub grows : a ≤ b
     pub exists : (α : Assignment) → (β : Assignment) × Agree a α β × (satisfies β cs ≡ true)
     pub unique : (α β : Assignment) → Agree a α β → satisfies α cs ≡ true → satisfies β cs ≡ true → Agree b α β
     pub names : Names b cs
     pub opens : past a cs ≡ b
+    pub distinct : All-distinct cs
     pub steps : (css : List (List Clause)) × (joined css ≡ cs) × Steps a b css
 
   agree-less : {a b : ℕ} {α β : Assignment} → a ≤ b → Agree b α β → Agree a α β
@@ -217,6 +222,7 @@ module _ (Used : ℕ → Type 0) where
     unique = λ α β h s t. h;
     names = tt;
     opens = refl;
+    distinct = tt;
     steps = ([], refl, refl);
   }
 
@@ -231,6 +237,7 @@ module _ (Used : ℕ → Type 0) where
         q .unique α β (p .unique α β h (satisfies-left α cs ds s) (satisfies-left β cs ds t)) (satisfies-right α cs ds s) (satisfies-right β cs ds t);
     names = names-append c cs ds (names-more cs (q .grows) (p .names)) (q .names);
     opens = past-append a cs ds ∙ ap (λ (n : ℕ). past n ds) (p .opens) ∙ q .opens;
+    distinct = all-distinct-append cs ds (p .distinct) (q .distinct);
     steps =
         let s = p .steps in
         let t = q .steps in
@@ -260,9 +267,10 @@ module _ (Used : ℕ → Type 0) where
   pub step : (n : ℕ) (cs : List Clause) (f : Assignment → Bool) → Used n
       → ((α β : Assignment) → Agree n α β → f α ≡ f β)
       → Shapes n cs
+      → All-distinct cs
       → ((α : Assignment) → satisfies α cs ≡ Bool·beq (α n) (f α))
       → Extends n (suc n) cs
-  step n cs f u low shapes forced = record {
+  step n cs f u low shapes distinct forced = record {
     grows = omega arith;
     exists = λ α.
         let β : Assignment = put n (f α) α in
@@ -271,6 +279,7 @@ module _ (Used : ℕ → Type 0) where
         ⊎-elim (λ (e : v ≡ n). subst (λ (u : ℕ). α u ≡ β u) (sym e) (says α s ∙ low α β h ∙ sym (says β t))) (λ l. h v p l) (eq-or-lt-of-le (le-of-suc-le-suc q));
     names = shapes-names cs u shapes;
     opens = past-shapes cs u some shapes;
+    distinct = distinct;
     steps = (cs ∷ [], append-nil cs, (record { used = u; function = f; low = low; shapes = shapes; forced = forced }, refl));
   }
     where
@@ -336,3 +345,40 @@ opened-named Used {a} {b} {cs} x v u l h = go (clauses-name v cs) refl
         sym (satisfies-local (λ k. k ≡ v → ⊥) cs (names-other Used b cs (x .names) v e) (λ k p q. put-other v (not (α v)) α k p)) ∙ s in
         let q = x .unique α β (λ k p q. put-other v (not (α v)) α k (λ r. omega arith)) s t in
         absurd (not-itself (α v) (sym (put-same v (not (α v)) α) ∙ sym (q v u h)))
+
+-- ---- no variable twice
+
+stands-named : (l : Literal) (c : Clause) → Stands-in l c → clause-names (l .variable) c ≡ true
+stands-named l [] s = absurd s
+stands-named l (k ∷ c) s =
+    ⊎-elim
+    (λ (e : l ≡ k). rw (eq-eqb (k .variable) (l .variable) (ap (λ (m : Literal). m .variable) (sym e))))
+    (λ t. ap (λ (b : Bool). eqb (k .variable) (l .variable) || b) (stands-named l c t) ∙ or-either (eqb (k .variable) (l .variable)))
+    s
+  where
+    or-either : (a : Bool) → a || true ≡ true
+    or-either true = refl
+    or-either false = refl
+
+-- a variable that no literal behind k names is none of theirs
+named-once : (k l : Literal) (c : Clause) → clause-names (k .variable) c ≡ false → k .variable ≡ l .variable → Stands-in l c → ⊥
+named-once k l c f e s = false≢true (sym f ∙ ap (λ (v : ℕ). clause-names v c) e ∙ stands-named l c s)
+
+-- a literal never stands beside its own negation in a clause that names no variable twice
+never-beside : (c : Clause) → Distinct c → (l : Literal) → Stands-in l c → Stands-in (negation l) c → ⊥
+never-beside [] d l s t = s
+never-beside (k ∷ c) d l s t =
+    ⊎-elim
+    (λ (e : l ≡ k).
+    ⊎-elim
+    (λ (g : negation l ≡ k). not-itself (l .negated) (ap (λ (m : Literal). m .negated) (g ∙ sym e)))
+    (λ u. named-once k (negation l) c (d .0) (ap (λ (m : Literal). m .variable) (sym e)) u)
+    t)
+    (λ r. ⊎-elim (λ (g : negation l ≡ k). named-once k l c (d .0) (ap (λ (m : Literal). m .variable) (sym g)) r) (λ u. never-beside c (d .1) l r u) t)
+    s
+
+pub never-beside-in : (cs : List Clause) → All-distinct cs → (c : Clause) → Stands-in c cs
+    → (l : Literal) → Stands-in l c → Stands-in (negation l) c → ⊥
+never-beside-in [] d c i l s t = i
+never-beside-in (b ∷ cs) d c i l s t =
+    ⊎-elim (λ (e : c ≡ b). never-beside c (subst Distinct (sym e) (d .0)) l s t) (λ j. never-beside-in cs (d .1) c j l s t) i

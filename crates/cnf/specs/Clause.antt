@@ -1,5 +1,7 @@
 -- Variables, literals and clauses, and their meaning under an assignment.
 use Prim.Native.Nat.{ℕ}
+use mathlib.Core.Path.{_≡_}
+use mathlib.Core.Logic.{_⊎_}
 use mathlib.Core.Bool.{Bool, true, false, not, _&&_, _||_}
 use mathlib.Core.List.{List, [], _∷_}
 use lib.Dec.{eqb}
@@ -53,3 +55,19 @@ clause-names v (l ∷ c) = eqb (l .variable) v || clause-names v c
 abbrev pub clauses-name : ℕ → List Clause → Bool
 clauses-name v [] = false
 clauses-name v (c ∷ cs) = clause-names v c || clauses-name v cs
+
+-- ---- no variable twice
+
+-- each literal is of another variable
+abbrev pub Distinct : Clause → Type 0
+Distinct [] = Unit {0}
+Distinct (l ∷ c) = (clause-names (l .variable) c ≡ false) × Distinct c
+
+abbrev pub All-distinct : List Clause → Type 0
+All-distinct [] = Unit {0}
+All-distinct (c ∷ cs) = Distinct c × All-distinct cs
+
+-- x stands in the list: a literal in a clause, or a clause among clauses
+abbrev pub Stands-in : {A : Type 0} → A → List A → Type 0
+Stands-in x [] = ⊥
+Stands-in x (y ∷ ys) = (x ≡ y) ⊎ Stands-in x ys

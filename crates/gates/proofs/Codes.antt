@@ -7,7 +7,7 @@ use native.Mathlib.Omega.{arith}
 use native.Mathlib.Decide.{decLt}
 use lib.Dec.{eqb}
 use lib.ListN.{getD, List·getD-map}
-use borrow.Author.Tests.{eq-eqb, ne-eqb, eqb-true, eqb-false, le-ltb}
+use borrow.Author.Tests.{eq-eqb, ne-eqb, eqb-true, eqb-false, lt-ltb, le-ltb}
 use lib.IntN.{pos, negℤ}
 use Rattle.cnf.specs.Clause.{Literal, signed, negation, new}
 use Rattle.cnf.specs.Words.{word}
@@ -18,10 +18,10 @@ use Rattle.gates.specs.Code.{code-sign, literal-of, bit-of, bits-of, neg
 
 -- ---- even and odd
 
-sign-even : (b : ℕ) → b % 2 ≡ 0 → code-sign b ≡ false
+pub sign-even : (b : ℕ) → b % 2 ≡ 0 → code-sign b ≡ false
 sign-even b e = ap (λ (t : Bool). cond t false true) (eq-eqb (b % 2) 0 e)
 
-sign-odd : (b : ℕ) → (b % 2 ≡ 0 → ⊥) → code-sign b ≡ true
+pub sign-odd : (b : ℕ) → (b % 2 ≡ 0 → ⊥) → code-sign b ≡ true
 sign-odd b e = ap (λ (t : Bool). cond t false true) (ne-eqb (b % 2) 0 e)
 
 pub negated-even : (b : ℕ) → b % 2 ≡ 0 → negated-code b ≡ b + 1
@@ -32,7 +32,7 @@ pub negated-odd : (b : ℕ) → (b % 2 ≡ 0 → ⊥) → negated-code b ≡ b -
 unfolding negated-code
 negated-odd b e = ap (λ (t : Bool). cond t (b + 1) (b - 1)) (ne-eqb (b % 2) 0 e)
 
-even-or-odd : {A : Type 0} (b : ℕ) → (b % 2 ≡ 0 → A) → ((b % 2 ≡ 0 → ⊥) → A) → A
+pub even-or-odd : {A : Type 0} (b : ℕ) → (b % 2 ≡ 0 → A) → ((b % 2 ≡ 0 → ⊥) → A) → A
 even-or-odd {A} b f g =
     let go : (t : Bool) → eqb (b % 2) 0 ≡ t → A = λ t. elim t [ true ↦ λ e. f (eqb-true (b % 2) 0 e) | false ↦ λ e. g (eqb-false (b % 2) 0 e) ] in
     go (eqb (b % 2) 0) refl
@@ -93,6 +93,10 @@ pub bit-one : bit-of 1 ≡ fixed true
 unfolding bit-of
 bit-one = refl
 
+pub bit-fixed : (b : ℕ) → b < 2 → bit-of b ≡ fixed (code-sign b)
+unfolding bit-of
+bit-fixed b h = ap (λ (t : Bool). cond t (fixed (code-sign b)) (unfixed (literal-of b))) (lt-ltb b 2 h)
+
 pub bit-literal : (b : ℕ) → 2 ≤ b → bit-of b ≡ unfixed (literal-of b)
 unfolding bit-of
 bit-literal b h = ap (λ (t : Bool). cond t (fixed (code-sign b)) (unfixed (literal-of b))) (le-ltb b 2 h)
@@ -102,18 +106,6 @@ bit-new z h = bit-literal (2 * z) (omega arith) ∙ ap (λ (l : Literal). unfixe
 
 negated-ge : (b : ℕ) → 2 ≤ b → 2 ≤ negated-code b
 negated-ge b h = even-or-odd b (λ e. omega (arith, negated-even b e)) (λ e. omega (arith, e, negated-odd b e))
-
-flipped-ge : (b f : ℕ) → 2 ≤ b → 2 ≤ flipped-code b f
-flipped-ge b f h = by-odd f (λ e o. omega (arith, flipped-odd b f e, negated-ge b h)) (λ e o. omega (arith, flipped-even b f e))
-
-pub bit-flipped : (b f : ℕ) → 2 ≤ b → bit-of (flipped-code b f) ≡ unfixed (signed (odd f) (literal-of b))
-bit-flipped b f h = bit-literal (flipped-code b f) (flipped-ge b f h) ∙ ap (λ (l : Literal). unfixed l) (literal-flipped b f)
-
-pub bit-mod : (f : ℕ) → bit-of (f % 2) ≡ fixed (odd f)
-bit-mod f =
-    by-odd f
-    (λ e o. ap (λ (x : ℕ). bit-of x) e ∙ (bit-one ∙ ap (λ (t : Bool). fixed t) (sym o)))
-    (λ e o. ap (λ (x : ℕ). bit-of x) e ∙ (bit-zero ∙ ap (λ (t : Bool). fixed t) (sym o)))
 
 negated-small : (b : ℕ) → b < 2 → bit-of (negated-code b) ≡ flip (bit-of b)
 unfolding bit-of negated-code

@@ -14,7 +14,8 @@
 -- suffice, writing does not refuse, and in the DIMACS meaning of the words that stand in the
 -- clause room each assignment of the variables below the first free number extends to exactly one of those below the next that satisfies them, and
 -- there the entries of the bit room read as c times the number that the given literals read as (`each-input`). The new variables are those from the
--- first free number to the one before the next: each stands in some clause, and the clauses name no others but x's (`new-variables`).
+-- first free number to the one before the next: each stands in some clause, and the clauses name no others but x's (`new-variables`). In the words of
+-- every call that succeeds no clause names a variable twice (`no-variable-twice`), so none holds a variable and its own negation (`no-negation-beside`).
 --
 -- Document 01's call is the case where x is the variables 1 to w and the first free number is w + 1: its tests are document 01's in document 01's order,
 -- so that it never refuses by 14 or 15 (`plain-tests`), and each input of the width has exactly one assignment (`plain-each-input`). Every other call of
@@ -73,10 +74,11 @@ use Rattle.product.specs.Demand.{Demand-2, Plain-demand-2, Result, words-at-exi
 use Rattle.product.specs.declared.Written.{Written}
 use Rattle.product.specs.declared.Written.the-variants as write-answers
 use Rattle.product.proofs.Given.{literals-of}
+use Rattle.product.proofs.Demands as product-demands
 use Rattle.product.proofs.Demands.{demand-2, not-refused, opened, plain-demand-2, renamed, demand-3-clauses}
 use Rattle.product.proofs.Plain.{plain-order}
 use Rattle.product.proofs.Success.{answer-of}
-use Rattle.cnf.specs.Clause.{Assignment}
+use Rattle.cnf.specs.Clause.{Literal, Clause, Assignment, negation, All-distinct, Stands-in}
 use Rattle.cnf.specs.Words.{clauses-of, satisfies-words, names, Distinct-below}
 use Rattle.propagate.specs.Pass.{all-unknown, propagated, propagated-number}
 use Rattle.propagate.specs.Promise.{Given-true, Agrees}
@@ -144,6 +146,16 @@ module _ (c w : ℕ) (x : List ℤ) (first : ℕ) (recipe : List ℕ) (bits clau
       → Pass-multiplies c x first (next-free answer) (words-at-exit answer clauses′) (entries-at-exit answer bits′) gs room
       (propagated (words-at-exit answer clauses′) gs allowance room)
   pass-multiplies = our-words.pass-multiplies c w x first recipe bits clauses answer bits′ clauses′ meets succeeds
+
+-- any outcome of writing that is no refusal
+module _ (c w : ℕ) (x : List ℤ) (first : ℕ) (recipe : List ℕ) (bits clauses : List ℤ) (answer : Written) (bits′ clauses′ : List ℤ)
+    (meets : Result c w x first recipe bits clauses answer bits′ clauses′) (success : written-number answer ≡ 0) where
+  pub no-variable-twice : All-distinct (clauses-of (words-at-exit answer clauses′))
+  no-variable-twice = product-demands.no-variable-twice c w x first recipe bits clauses answer bits′ clauses′ meets success
+
+  pub no-negation-beside : (k : Clause) → Stands-in k (clauses-of (words-at-exit answer clauses′))
+      → (l : Literal) → Stands-in l k → Stands-in (negation l) k → ⊥
+  no-negation-beside = product-demands.no-negation-beside c w x first recipe bits clauses answer bits′ clauses′ meets success
 
 -- document 01's call is the case where x is the variables 1 to w and the first free number is w + 1
 module _ (c w : ℕ) (recipe : List ℕ) (bits clauses : List ℤ) (answer : Written) (bits′ clauses′ : List ℤ)

@@ -17,7 +17,7 @@ use Rattle.cnf.specs.Clause.{Literal, Clause}
 use Rattle.cnf.specs.Words.{words}
 use Rattle.cnf.proofs.Words.{words-append}
 use Rattle.product.specs.Bit.{Bit, fixed, unfixed, given}
-use Rattle.product.specs.Column.{fixed-sum, literals, Made, parity, sum, both, either, most, carry, carry-unless, column}
+use Rattle.product.specs.Column.{fixed-sum, literals, Pair, none, equal, opposite, first-pair, Made, parity, sum, both, either, most, carry, sum-of, carry-of, carry-unless, column}
 use Rattle.product.specs.Lines.{none-left, adder, fitted, line-sum, columns, line-encoded, encoded}
 use Rattle.product.specs.Product.{lines-from, lines-of, product, product-of, clause-words}
 use Rattle.product.proofs.BitLengths.{columns-le}
@@ -42,18 +42,32 @@ sum-clauses f n (p ∷ q ∷ []) h = omega arith
 sum-clauses f n (p ∷ q ∷ r ∷ []) h = omega arith
 sum-clauses f n (p ∷ q ∷ r ∷ s ∷ ps) h = absurd (omega arith)
 
-carry-clauses : (last : Bool) (f n : ℕ) (ps : List Literal)
-    → (length (carry-unless last f ps n .clauses) ≤ 6) × (length (words (carry-unless last f ps n .clauses)) ≤ 24)
-unfolding carry carry-unless both either most
-carry-clauses true f n ps = omega arith
-carry-clauses false f n [] = omega arith
-carry-clauses false zero n (p ∷ []) = omega arith
-carry-clauses false (suc zero) n (p ∷ []) = omega arith
-carry-clauses false (suc (suc f)) n (p ∷ []) = omega arith
-carry-clauses false zero n (p ∷ q ∷ []) = omega arith
-carry-clauses false (suc f) n (p ∷ q ∷ []) = omega arith
-carry-clauses false zero n (p ∷ q ∷ r ∷ ps) = omega arith
-carry-clauses false (suc f) n (p ∷ q ∷ r ∷ ps) = omega arith
+carry-clauses : (f n : ℕ) (ps : List Literal) → (length (carry f ps n .clauses) ≤ 6) × (length (words (carry f ps n .clauses)) ≤ 24)
+unfolding carry both either most
+carry-clauses f n [] = omega arith
+carry-clauses zero n (p ∷ []) = omega arith
+carry-clauses (suc zero) n (p ∷ []) = omega arith
+carry-clauses (suc (suc f)) n (p ∷ []) = omega arith
+carry-clauses zero n (p ∷ q ∷ []) = omega arith
+carry-clauses (suc f) n (p ∷ q ∷ []) = omega arith
+carry-clauses zero n (p ∷ q ∷ r ∷ ps) = omega arith
+carry-clauses (suc f) n (p ∷ q ∷ r ∷ ps) = omega arith
+
+-- with a pair at most one input remains, and the carry has no clause
+sum-of-clauses : (k : Pair) (bs : List Bit) (n : ℕ) → length bs ≤ 3
+    → (length (sum-of k bs n .clauses) ≤ 8) × (length (words (sum-of k bs n .clauses)) ≤ 40)
+unfolding sum-of
+sum-of-clauses none bs n h = sum-clauses _ n (literals bs) (omega (arith, inputs-few bs))
+sum-of-clauses (equal p r) bs n h = sum-clauses _ n (literals (r ∷ [])) (omega (arith, inputs-few (r ∷ [])))
+sum-of-clauses (opposite r) bs n h = sum-clauses _ n (literals (r ∷ [])) (omega (arith, inputs-few (r ∷ [])))
+
+carry-of-clauses : (last : Bool) (k : Pair) (bs : List Bit) (n : ℕ)
+    → (length (carry-unless last k bs n .clauses) ≤ 6) × (length (words (carry-unless last k bs n .clauses)) ≤ 24)
+unfolding carry-of carry-unless
+carry-of-clauses true k bs n = omega arith
+carry-of-clauses false none bs n = carry-clauses (fixed-sum bs) n (literals bs)
+carry-of-clauses false (equal p r) bs n = omega arith
+carry-of-clauses false (opposite r) bs n = omega arith
 
 words-of-both : (cs ds : List Clause) → length (words (cs ++ ds)) ≡ length (words cs) + length (words ds)
 words-of-both cs ds = ap length (words-append cs ds) ∙ length-append (words cs) (words ds)
@@ -62,10 +76,11 @@ column-clauses : (l r c : Bit) (last : Bool) (n : ℕ) → (length (column l r c
 unfolding column
 column-clauses l r c last n =
     let inputs : List Bit = l ∷ r ∷ c ∷ [] in
-    let s : Made = sum (fixed-sum inputs) (literals inputs) n in
-    let t : Made = carry-unless last (fixed-sum inputs) (literals inputs) (s .next) in
-    let a = sum-clauses (fixed-sum inputs) n (literals inputs) (omega (arith, inputs-few inputs)) in
-    let b = carry-clauses last (fixed-sum inputs) (s .next) (literals inputs) in
+    let k : Pair = first-pair l r c in
+    let s : Made = sum-of k inputs n in
+    let t : Made = carry-unless last k inputs (s .next) in
+    let a = sum-of-clauses k inputs n (omega arith) in
+    let b = carry-of-clauses last k inputs (s .next) in
     (omega (arith, length-append (s .clauses) (t .clauses), a .0, b .0), omega (arith, words-of-both (s .clauses) (t .clauses), a .1, b .1))
 
 -- ---- a line and a recipe: whatever is counted of clauses, if a column has at most `most` of it

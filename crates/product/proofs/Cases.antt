@@ -8,7 +8,7 @@ use Rattle.line.specs.Number.{digits-by, bit-length, halvings-by, twos, odd-par
 use Rattle.line.specs.Line.{kind-of, gives}
 use Rattle.recipe.specs.Check.{claims, judged, lines-checked, recipe-checked}
 use Rattle.product.specs.Bit.{numbered}
-use Rattle.product.specs.Column.{parity, sum, both, either, most, carry, carry-unless, column}
+use Rattle.product.specs.Column.{parity, sum, both, either, most, carry, sum-of, carry-of, carry-unless, column}
 use Rattle.product.specs.Lines.{adder, shifted, fitted, line-sum, columns, line-encoded, encoded}
 use Rattle.product.specs.Product.{product, lines-from, product-of}
 use Rattle.product.specs.Write.{Outcome, written-number, words-used, clauses-written, next-free, bits-of-y, write-answer, written}
@@ -64,9 +64,9 @@ pub record Right (table : Table) : Type 0 where
   pub given-rooms : map given-rooms-answered (table .given-rooms) ≡ table .given-rooms
 
 pub bench-right : Right bench
-unfolding bench digits-by bit-length halvings-by twos odd-part kind-of gives claims judged lines-checked recipe-checked numbered parity sum both either most carry carry-unless column adder shifted fitted line-sum columns line-encoded encoded product lines-from product-of write-answer written
+unfolding bench digits-by bit-length halvings-by twos odd-part kind-of gives claims judged lines-checked recipe-checked numbered parity sum both either most carry sum-of carry-of carry-unless column adder shifted fitted line-sum columns line-encoded encoded product lines-from product-of write-answer written
 bench-right = record { written = refl; write-rooms = refl; given = refl; given-rooms = refl }
 
 pub agreed-right : Right agreed
-unfolding agreed digits-by bit-length halvings-by twos odd-part kind-of gives claims judged lines-checked recipe-checked numbered parity sum both either most carry carry-unless column adder shifted fitted line-sum columns line-encoded encoded product lines-from product-of write-answer written
+unfolding agreed digits-by bit-length halvings-by twos odd-part kind-of gives claims judged lines-checked recipe-checked numbered parity sum both either most carry sum-of carry-of carry-unless column adder shifted fitted line-sum columns line-encoded encoded product lines-from product-of write-answer written
 agreed-right = record { written = refl; write-rooms = refl; given = refl; given-rooms = refl }

@@ -1,20 +1,24 @@
 -- What a column means: each variable that it opens is tied to its inputs, and left + right + carry = sum + 2 * carry'.
 --
--- The sum's and the carry's clauses are steps (crates/cnf, Extend), so a column extends every assignment of the variables below n to exactly one.
+-- With a pair of inputs of one variable the sum is what remains, or its negation, and the carry the pair's literal or what remains
+-- (PairMeans); without one the sum's and the carry's clauses are steps (crates/cnf, Extend). So a column extends every assignment of the
+-- variables below n to exactly one.
 -- `Column-adds` is all that the sums above know of a column: another description of a column asks only for `column-adds` again.
 use Prim.Native.Nat.{ℕ, zero, suc, _+_, _*_, _%_, _≤_}
-use mathlib.Core.Path.{_≡_, refl, sym, ap, ap₂, _∙_}
+use mathlib.Core.Path.{_≡_, refl, sym, ap, ap₂, _∙_, subst}
 use mathlib.Core.Bool.{Bool, true, false, not, Bool·beq, false≢true}
 use mathlib.Core.List.{List, [], _∷_, _++_, map}
 use native.Mathlib.Nat.{le-refl}
 use native.Mathlib.Omega.{arith}
 use lib.ListN.{length}
-use Rattle.cnf.specs.Clause.{Literal, Clause, Assignment, flips, negation, new, value, satisfies}
-use Rattle.cnf.proofs.Extend.{Agree, Fresh, Within, Literals, literals-more, Shapes, Extends, extends-nil, extends-append, step, value-local, satisfies-left, satisfies-right, eq-of-beq}
-use Rattle.product.specs.Bit.{Bit, fixed, unfixed, bit-value, num}
-use Rattle.product.specs.Column.{fixed-sum, literals, odd, at-least-two, Made, opened, parity, sum, both, either, most, carry, carry-unless, Column, column}
+use Rattle.cnf.specs.Clause.{Literal, Clause, Assignment, flips, signed, negation, new, value, satisfies, Distinct, All-distinct}
+use Rattle.cnf.proofs.Extend.{Agree, Fresh, Within, Literals, literals-more, Shape, Shapes, Extends, extends-nil, extends-append, step, value-local, satisfies-left, satisfies-right, eq-of-beq}
+use Rattle.product.specs.Bit.{Bit, fixed, unfixed, flip, bit-value, num}
+use Rattle.product.specs.Column.{fixed-sum, literals, odd, at-least-two, Pair, none, equal, opposite, first-pair, Made, plain, opened, parity, sum, both, either, most, carry, sum-of, carry-of, carry-unless, Column, column}
 use Rattle.product.specs.Demand.{Bit-below, Bits-below}
 use Rattle.product.proofs.Bounds.{inputs-few}
+use Rattle.product.proofs.Distinct.{parity-distinct, both-distinct, either-distinct, most-distinct}
+use Rattle.product.proofs.PairMeans.{Pair-adds, first-pair-adds, Pair-below, first-pair-below, no-pair-distinct}
 use Rattle.product.proofs.ShapeMeans.{up, total, flips-flips, parity-law, both-law, either-law, most-law}
 
 abbrev pub bit-number : Assignment → Bit → ℕ
@@ -51,6 +55,28 @@ odd-at-least-two (suc (suc zero)) h = refl
 odd-at-least-two (suc (suc (suc zero))) h = refl
 odd-at-least-two (suc (suc (suc (suc t)))) h = absurd (omega arith)
 
+halved : (t : ℕ) (a b : Bool) → t ≡ num a + 2 * num b → (a ≡ odd t) × (b ≡ at-least-two t)
+halved t a b e = subst (λ (k : ℕ). (a ≡ odd k) × (b ≡ at-least-two k)) (sym e) (go a b)
+  where
+    go : (a b : Bool) → (a ≡ odd (num a + 2 * num b)) × (b ≡ at-least-two (num a + 2 * num b))
+    go true true = (refl, refl)
+    go true false = (refl, refl)
+    go false true = (refl, refl)
+    go false false = (refl, refl)
+
+-- the sum of one input is that input
+pub sum-remains : (r : Bit) (n : ℕ) → sum (fixed-sum (r ∷ [])) (literals (r ∷ [])) n ≡ plain r n
+unfolding sum
+sum-remains (fixed true) n = refl
+sum-remains (fixed false) n = refl
+sum-remains (unfixed l) n = refl
+
+pub sum-flips : (r : Bit) (n : ℕ) → sum (suc (fixed-sum (r ∷ []))) (literals (r ∷ [])) n ≡ plain (flip r) n
+unfolding sum
+sum-flips (fixed true) n = refl
+sum-flips (fixed false) n = refl
+sum-flips (unfixed l) n = refl
+
 pub halves : (t : ℕ) → (j : ℕ) × (t ≡ num (odd t) + 2 * j)
 halves zero = (0, refl)
 halves (suc t) = go (odd t) (halves t .0) (halves t .1)
@@ -75,6 +101,10 @@ module _ (Used : ℕ → Type 0) where
   pub bit-more : {n m : ℕ} (b : Bit) → n ≤ m → Bit-below Used n b → Bit-below Used m b
   bit-more (fixed b) h i = tt
   bit-more (unfixed l) h i = (i .0, omega arith)
+
+  flip-below : (n : ℕ) (b : Bit) → Bit-below Used n b → Bit-below Used n (flip b)
+  flip-below n (fixed b) i = tt
+  flip-below n (unfixed l) i = i
 
   total-local : {n : ℕ} {α β : Assignment} (f : ℕ) (ps : List Literal) → Literals Used n ps → Agree Used n α β → total α f ps ≡ total β f ps
   total-local f [] i h = refl
@@ -108,50 +138,71 @@ module _ (Used : ℕ → Type 0) where
 
   -- a bit that is its own new variable: a step
   opened-tied : (n : ℕ) (cs : List Clause) (v : ℕ → Bool) (f : ℕ) (ps : List Literal) → Used n → Literals Used n ps → Shapes Used n cs
+      → All-distinct cs
       → ((α : Assignment) → satisfies α cs ≡ Bool·beq (α n) (v (total α f ps)))
       → Tied n (opened n cs) (λ α. v (total α f ps))
-  opened-tied n cs v f ps u i sh law = record {
-    extends = step Used n cs (λ α. v (total α f ps)) u (λ α β h. ap v (total-local f ps i h)) sh law;
+  opened-tied n cs v f ps u i sh distinct law = record {
+    extends = step Used n cs (λ α. v (total α f ps)) u (λ α β h. ap v (total-local f ps i h)) sh distinct law;
     value = λ α s. eq-of-beq (α n) (v (total α f ps)) (sym (law α) ∙ s);
     below = (u, le-refl (suc n));
   }
 
-  pub sum-tied : (n f : ℕ) (ps : List Literal) → Used n → Literals Used n ps → Tied n (sum f ps n) (λ α. odd (total α f ps))
+  -- a bit that needs no variable
+  plain-tied : (n : ℕ) (b : Bit) (v : Assignment → Bool) → Bit-below Used n b
+      → ((α : Assignment) → bit-value α b ≡ v α) → Tied n (plain b n) v
+  plain-tied n b v i e = record { extends = extends-nil Used n; value = λ α s. e α; below = i }
+
+  sum-tied : (n f : ℕ) (ps : List Literal) → Used n → Literals Used n ps → Distinct ps → Tied n (sum f ps n) (λ α. odd (total α f ps))
   unfolding sum
-  sum-tied n f [] u i = record { extends = extends-nil Used n; value = λ α s. refl; below = tt }
-  sum-tied n f (p ∷ []) u i = record { extends = extends-nil Used n; value = λ α s. flips-flips (odd f) (p .negated) (α (p .variable)) ∙ go (value α p) (odd f) refl; below = i .0 }
+  sum-tied n f [] u i d = plain-tied n (fixed (odd f)) (λ α. odd f) tt (λ α. refl)
+  sum-tied n f (p ∷ []) u i d =
+      plain-tied n (unfixed (signed (odd f) p)) (λ α. odd (up (value α p) f)) (i .0)
+      (λ α. flips-flips (odd f) (p .negated) (α (p .variable)) ∙ go (value α p) (odd f) refl)
     where
       go : (b o : Bool) → odd f ≡ o → flips o b ≡ odd (up b f)
       go true true e = ap not (sym e)
       go true false e = ap not (sym e)
       go false true e = sym e
       go false false e = sym e
-  sum-tied n f (p ∷ q ∷ ps) u i = opened-tied n (parity (p ∷ q ∷ ps) (odd f) n) odd f (p ∷ q ∷ ps) u i (parity-shape n (p ∷ q ∷ ps) (odd f) i) (λ α. parity-law α f (p ∷ q ∷ ps) n)
+  sum-tied n f (p ∷ q ∷ ps) u i d =
+      opened-tied n (parity (p ∷ q ∷ ps) (odd f) n) odd f (p ∷ q ∷ ps) u i (parity-shape n (p ∷ q ∷ ps) (odd f) i)
+      (parity-distinct Used n (p ∷ q ∷ ps) (odd f) i d) (λ α. parity-law α f (p ∷ q ∷ ps) n)
 
-  pub carry-tied : (n f : ℕ) (ps : List Literal) → f + length ps ≤ 3 → Used n → Literals Used n ps → Tied n (carry f ps n) (λ α. at-least-two (total α f ps))
+  carry-tied : (n f : ℕ) (ps : List Literal) → f + length ps ≤ 3 → Used n → Literals Used n ps → Distinct ps
+      → Tied n (carry f ps n) (λ α. at-least-two (total α f ps))
   unfolding carry both either most
-  carry-tied n f [] h u i = record { extends = extends-nil Used n; value = λ α s. refl; below = tt }
-  carry-tied n zero (p ∷ []) h u i = record { extends = extends-nil Used n; value = λ α s. go (value α p); below = tt }
+  carry-tied n f [] h u i d = plain-tied n (fixed (at-least-two f)) (λ α. at-least-two f) tt (λ α. refl)
+  carry-tied n zero (p ∷ []) h u i d = plain-tied n (fixed false) (λ α. at-least-two (up (value α p) 0)) tt (λ α. go (value α p))
     where
       go : (b : Bool) → false ≡ at-least-two (up b 0)
       go true = refl
       go false = refl
-  carry-tied n (suc zero) (p ∷ []) h u i = record { extends = extends-nil Used n; value = λ α s. go (value α p); below = i .0 }
+  carry-tied n (suc zero) (p ∷ []) h u i d = plain-tied n (unfixed p) (λ α. at-least-two (up (value α p) 1)) (i .0) (λ α. go (value α p))
     where
       go : (b : Bool) → b ≡ at-least-two (up b 1)
       go true = refl
       go false = refl
-  carry-tied n (suc (suc f)) (p ∷ []) h u i = record { extends = extends-nil Used n; value = λ α s. go (value α p); below = tt }
+  carry-tied n (suc (suc f)) (p ∷ []) h u i d =
+      plain-tied n (fixed true) (λ α. at-least-two (up (value α p) (suc (suc f)))) tt (λ α. go (value α p))
     where
       go : (b : Bool) → true ≡ at-least-two (up b (suc (suc f)))
       go true = refl
       go false = refl
-  carry-tied n zero (p ∷ q ∷ []) h u i = opened-tied n (both p q (new n)) at-least-two 0 (p ∷ q ∷ []) u i ((i .0, refl), ((i .1 .0, refl), ((i .0, (i .1 .0, refl)), tt))) (λ α. both-law α p q (new n))
-  carry-tied n (suc zero) (p ∷ q ∷ []) h u i = opened-tied n (either p q (new n)) at-least-two 1 (p ∷ q ∷ []) u i ((i .0, refl), ((i .1 .0, refl), ((i .0, (i .1 .0, refl)), tt))) (λ α. either-law α p q (new n))
-  carry-tied n (suc (suc f)) (p ∷ q ∷ []) h u i = absurd (omega arith)
-  carry-tied n zero (p ∷ q ∷ r ∷ []) h u i = opened-tied n (most p q r (new n)) at-least-two 0 (p ∷ q ∷ r ∷ []) u i ((i .0, (i .1 .0, refl)), ((i .0, (i .1 .1 .0, refl)), ((i .1 .0, (i .1 .1 .0, refl)), ((i .0, (i .1 .0, refl)), ((i .0, (i .1 .1 .0, refl)), ((i .1 .0, (i .1 .1 .0, refl)), tt)))))) (λ α. most-law α p q r (new n))
-  carry-tied n (suc f) (p ∷ q ∷ r ∷ []) h u i = absurd (omega arith)
-  carry-tied n f (p ∷ q ∷ r ∷ o ∷ ps) h u i = absurd (omega arith)
+  carry-tied n zero (p ∷ q ∷ []) h u i d =
+      opened-tied n (both p q (new n)) at-least-two 0 (p ∷ q ∷ []) u i ((i .0, refl), ((i .1 .0, refl), ((i .0, (i .1 .0, refl)), tt)))
+      (both-distinct Used n p q i d) (λ α. both-law α p q (new n))
+  carry-tied n (suc zero) (p ∷ q ∷ []) h u i d =
+      opened-tied n (either p q (new n)) at-least-two 1 (p ∷ q ∷ []) u i ((i .0, refl), ((i .1 .0, refl), ((i .0, (i .1 .0, refl)), tt)))
+      (either-distinct Used n p q i d) (λ α. either-law α p q (new n))
+  carry-tied n (suc (suc f)) (p ∷ q ∷ []) h u i d = absurd (omega arith)
+  carry-tied n zero (p ∷ q ∷ r ∷ []) h u i d =
+      let pq : Shape Used n (p ∷ q ∷ new n ∷ []) = (i .0, (i .1 .0, refl)) in
+      let pr : Shape Used n (p ∷ r ∷ new n ∷ []) = (i .0, (i .1 .1 .0, refl)) in
+      let qr : Shape Used n (q ∷ r ∷ new n ∷ []) = (i .1 .0, (i .1 .1 .0, refl)) in
+      opened-tied n (most p q r (new n)) at-least-two 0 (p ∷ q ∷ r ∷ []) u i (pq, (pr, (qr, (pq, (pr, (qr, tt))))))
+      (most-distinct Used n p q r i d) (λ α. most-law α p q r (new n))
+  carry-tied n (suc f) (p ∷ q ∷ r ∷ []) h u i d = absurd (omega arith)
+  carry-tied n f (p ∷ q ∷ r ∷ o ∷ ps) h u i d = absurd (omega arith)
 
   pub bits-more : {n m : ℕ} (bs : List Bit) → n ≤ m → Bits-below Used n bs → Bits-below Used m bs
   bits-more [] h i = tt
@@ -176,34 +227,65 @@ module _ (Used : ℕ → Type 0) where
     abbrev inputs : List Bit
     inputs = l ∷ r ∷ c ∷ []
 
-    abbrev s : Made
-    s = sum (fixed-sum inputs) (literals inputs) n
+    abbrev pair : Pair
+    pair = first-pair l r c
+
+    -- how many inputs are 1
+    abbrev ones : Assignment → ℕ
+    ones α = total α (fixed-sum inputs) (literals inputs)
 
     literals-below : Literals Used n (literals inputs)
     literals-below = literals-in n inputs (il, (ir, (ic, tt)))
 
-    sum-right : Tied n s (λ α. odd (total α (fixed-sum inputs) (literals inputs)))
-    sum-right = sum-tied n (fixed-sum inputs) (literals inputs) (fresh n (le-refl n)) literals-below
+    -- with a pair the sum is what remains and the carry the pair's, and neither needs a variable
+    sum-of-tied : (k : Pair) → first-pair l r c ≡ k → ((α : Assignment) → Pair-adds α (ones α) k) → Pair-below Used n k
+        → Tied n (sum-of k inputs n) (λ α. odd (ones α))
+    unfolding sum-of
+    sum-of-tied none e h i = sum-tied n (fixed-sum inputs) (literals inputs) (fresh n (le-refl n)) literals-below (no-pair-distinct l r c e)
+    sum-of-tied (equal p q) e h i =
+        subst (λ (m : Made). Tied n m (λ α. odd (ones α))) (sym (sum-remains q n))
+        (plain-tied n q (λ α. odd (ones α)) (i .1) (λ α. halved (ones α) (bit-value α q) (bit-value α p) (h α) .0))
+    sum-of-tied (opposite q) e h i =
+        subst (λ (m : Made). Tied n m (λ α. odd (ones α))) (sym (sum-flips q n))
+        (plain-tied n (flip q) (λ α. odd (ones α)) (flip-below n q i) (λ α. halved (ones α) (bit-value α (flip q)) (bit-value α q) (h α) .0))
+
+    carry-of-tied : (k : Pair) (m : ℕ) → n ≤ m → first-pair l r c ≡ k → ((α : Assignment) → Pair-adds α (ones α) k) → Pair-below Used n k
+        → Tied m (carry-of k inputs m) (λ α. at-least-two (ones α))
+    unfolding carry-of
+    carry-of-tied none m g e h i =
+        carry-tied m (fixed-sum inputs) (literals inputs) (inputs-few inputs) (fresh m g)
+        (literals-more Used (literals inputs) g literals-below) (no-pair-distinct l r c e)
+    carry-of-tied (equal p q) m g e h i =
+        plain-tied m p (λ α. at-least-two (ones α)) (bit-more p g (i .0)) (λ α. halved (ones α) (bit-value α q) (bit-value α p) (h α) .1)
+    carry-of-tied (opposite q) m g e h i =
+        plain-tied m q (λ α. at-least-two (ones α)) (bit-more q g i) (λ α. halved (ones α) (bit-value α (flip q)) (bit-value α q) (h α) .1)
+
+    pair-adds : (α : Assignment) → Pair-adds α (ones α) pair
+    pair-adds α = subst (λ (t : ℕ). Pair-adds α t pair) (sum-of-inputs α l r c) (first-pair-adds α l r c)
+
+    abbrev s : Made
+    s = sum-of pair inputs n
+
+    sum-right : Tied n s (λ α. odd (ones α))
+    sum-right = sum-of-tied pair refl pair-adds (first-pair-below Used n l r c il ir ic)
 
     abbrev t : Made
-    t = carry (fixed-sum inputs) (literals inputs) (s .next)
+    t = carry-of pair inputs (s .next)
 
-    carry-right : Tied (s .next) t (λ α. at-least-two (total α (fixed-sum inputs) (literals inputs)))
-    carry-right =
-        carry-tied (s .next) (fixed-sum inputs) (literals inputs) (inputs-few inputs) (fresh (s .next) (sum-right .extends .grows))
-        (literals-more Used (literals inputs) (sum-right .extends .grows) literals-below)
+    carry-right : Tied (s .next) t (λ α. at-least-two (ones α))
+    carry-right = carry-of-tied pair (s .next) (sum-right .extends .grows) refl pair-adds (first-pair-below Used n l r c il ir ic)
 
-    few : (α : Assignment) → total α (fixed-sum inputs) (literals inputs) ≤ 3
+    few : (α : Assignment) → ones α ≤ 3
     few α = omega (arith, sum-of-inputs α l r c, num-le (bit-value α l), num-le (bit-value α r), num-le (bit-value α c))
 
     pub column-adds : (last : Bool) → Column-adds l r c last n (column l r c last n)
-    unfolding column carry sum carry-unless
+    unfolding column carry-unless
     column-adds true = record {
       extends = extends-append Used (sum-right .extends) (extends-nil Used (s .next));
       sum-below = sum-right .below;
       carry-below = tt;
       adds = λ α h.
-          let v = total α (fixed-sum inputs) (literals inputs) in
+          let v = ones α in
           let e : bit-value α (s .bit) ≡ odd v = sum-right .value α (satisfies-left α (s .clauses) [] h) in
           let k = halves v in
           (k .0, sum-of-inputs α l r c ∙ k .1 ∙ ap (λ (o : Bool). num o + 2 * k .0) (sym e), λ f. absurd (false≢true (sym f)));
@@ -213,7 +295,7 @@ module _ (Used : ℕ → Type 0) where
       sum-below = bit-more (s .bit) (carry-right .extends .grows) (sum-right .below);
       carry-below = carry-right .below;
       adds = λ α h.
-          let v = total α (fixed-sum inputs) (literals inputs) in
+          let v = ones α in
           let e : bit-value α (s .bit) ≡ odd v = sum-right .value α (satisfies-left α (s .clauses) (t .clauses) h) in
           let f : bit-value α (t .bit) ≡ at-least-two v = carry-right .value α (satisfies-right α (s .clauses) (t .clauses) h) in
           (bit-number α (t .bit), sum-of-inputs α l r c ∙ odd-at-least-two v (few α) ∙ ap₂ (λ (o d : Bool). num o + 2 * num d) (sym e) (sym f), λ f. refl);

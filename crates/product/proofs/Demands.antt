@@ -34,6 +34,9 @@
 -- where they name none from first on. The new variables are those from first to the one before next (`opened`): each of them stands in some clause,
 -- since else both its values would do, and no other variable does but x's.
 --
+-- No variable twice (`no-variable-twice`, and inside `no-variable-twice-inside`). No clause that is read off the words names a variable
+-- twice, so none holds a variable and its own negation (`no-negation-beside`).
+--
 -- No bit of y is ever fixed at 1 (`no-bit-fixed-at-1`): literals of distinct variables can all be false, and then y is 0. So an entry 0 always is a bit
 -- fixed at 0.
 --
@@ -41,10 +44,11 @@
 -- odd part of L digits, the clauses that are read off the room are at most 14 * (L + w) for each line.
 --
 -- Why. Each new variable comes with clauses that hold exactly when it equals a function of literals whose variables came before
--- (ShapeMeans); steps of this kind extend every assignment in exactly one way (crates/cnf, Extend). A column adds (ColumnMeans), so m
--- columns add mod 2^m (AdderMeans), so a line's bits are its coefficient times x mod 2^m (LineMeans), and exactly that, since m columns are
--- enough (RecipeMeans). A column has at most 8 + 6 clauses, a line at most L + w columns (Bounds). Words are read back as the clauses that
--- were written (crates/cnf, Words).
+-- (ShapeMeans), and names none twice, since two inputs of one variable are a pair and leave the sum (PairMeans, Distinct); steps of this
+-- kind extend every assignment in exactly one way (crates/cnf, Extend). A column adds (ColumnMeans), so m columns add mod 2^m
+-- (AdderMeans), so a line's bits are its coefficient times x mod 2^m (LineMeans), and exactly that, since m columns are enough
+-- (RecipeMeans). A column has at most 8 + 6 clauses, a line at most L + w columns (Bounds). Words are read back as the clauses that were
+-- written (crates/cnf, Words).
 use Prim.Native.Nat.{ℕ, suc, _+_, _-_, _*_, _/_, _^_, _≤_, _<_}
 use mathlib.Core.Path.{_≡_, sym, ap, _∙_, subst}
 use mathlib.Core.Logic.{_≢_, _⊎_, ⊎-elim}
@@ -59,8 +63,8 @@ use Rattle.recipe.specs.Check.{line-at, checked}
 use Rattle.recipe.specs.declared.Checked.the-variants.{Accepted}
 use Rattle.recipe.proofs.Accepted.{accepted-right}
 use Rattle.cnf.specs.Words.{From-1, words, clauses-of, names, highest-named, Distinct-below}
-use Rattle.cnf.specs.Clause.{clauses-name}
-use Rattle.cnf.proofs.Extend.{named-used, opened-named}
+use Rattle.cnf.specs.Clause.{Literal, Clause, negation, clauses-name, All-distinct, Stands-in}
+use Rattle.cnf.proofs.Extend.{named-used, opened-named, never-beside-in}
 use Rattle.cnf.proofs.Words.{clauses-of-words}
 use Rattle.product.specs.Bit.{Bit, fixed, given, numbered, stored}
 use Rattle.product.specs.Product.{product, lines-of, product-of, y-entries, clause-words}
@@ -85,6 +89,10 @@ pub demand-2-inside : (t : ℕ) (lines : List Line) (x : List Bit) (n : ℕ) →
     → Multiplies (lines-product lines * 2 ^ t) x n (product t lines x n)
 demand-2-inside t lines x n p i g =
     product-means.multiplies (lines-product lines * 2 ^ t) x n (product t lines x n) (product-multiplies From-1 t lines x n (λ v h. omega arith) i g)
+
+pub no-variable-twice-inside : (t : ℕ) (lines : List Line) (x : List Bit) (n : ℕ) → 0 < n → Bits-below From-1 n x
+    → Lines-right lines (1 ∷ []) → All-distinct (product t lines x n .clauses)
+no-variable-twice-inside t lines x n p i g = product-multiplies From-1 t lines x n (λ v h. omega arith) i g .extends .distinct
 
 -- ---- a recipe that the check accepts
 
@@ -154,6 +162,15 @@ module _ (c w : ℕ) (x : List ℤ) (first : ℕ) (recipe : List ℕ) (bits clau
             let u = named-used (λ u. (names u x ≡ true) ⊎ (first ≤ u)) (p .next) (p .clauses) ns v (sym (ap (clauses-name v) read) ∙ e) in
             (⊎-elim (λ q. absurd (false≢true (sym n ∙ q))) (λ l. l) (u .0), omega (arith, next, u .1));
       }
+
+  pub no-variable-twice : All-distinct (clauses-of (words-at-exit answer clauses′))
+  no-variable-twice =
+      rw (succeeds .words-are)
+      (words-mean.words-distinct c x first (succeeds .tests .fit) (succeeds .some) (product-of c x first recipe) made)
+
+  pub no-negation-beside : (k : Clause) → Stands-in k (clauses-of (words-at-exit answer clauses′))
+      → (l : Literal) → Stands-in l k → Stands-in (negation l) k → ⊥
+  no-negation-beside = never-beside-in (clauses-of (words-at-exit answer clauses′)) no-variable-twice
 
   pub demand-3-clauses : (L : ℕ) → ((i : ℕ) → i < length recipe / 5 → bit-length (line-at recipe i .coefficient) ≤ L)
       → length (clauses-of (words-at-exit answer clauses′)) ≤ 14 * (L + w) * (length recipe / 5)

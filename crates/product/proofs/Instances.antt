@@ -17,7 +17,7 @@ use Rattle.recipe.specs.Check.{claims, judged, lines-checked, recipe-checked}
 use Rattle.cnf.specs.Words.{clauses-from, satisfies-words}
 use Rattle.cnf.proofs.Extend.{and-left, and-right}
 use Rattle.product.specs.Bit.{numbered}
-use Rattle.product.specs.Column.{parity, sum, both, either, most, carry, carry-unless, column}
+use Rattle.product.specs.Column.{parity, sum, both, either, most, carry, sum-of, carry-of, carry-unless, column}
 use Rattle.product.specs.Lines.{adder, shifted, fitted, line-sum, columns, line-encoded, encoded}
 use Rattle.product.specs.Product.{product, lines-from, product-of}
 use Rattle.product.specs.Write.{written-number, next-free, write-answer, Outcome, written}
@@ -42,7 +42,7 @@ cases =
     ∷ plain 5 2 (32 ∷ 8 ∷ 0 ∷ 0 ∷ 5 ∷ []) (0 ∷ 1 ∷ [])
     ∷ plain 7 1 (64 ∷ 12 ∷ 0 ∷ 0 ∷ 7 ∷ []) (1 ∷ [])
     ∷ plain 6 2 (32 ∷ 4 ∷ 0 ∷ 0 ∷ 3 ∷ []) (0 ∷ 1 ∷ 1 ∷ 0 ∷ 1 ∷ 0 ∷ [])
-    ∷ plain 5 1 (32 ∷ 4 ∷ 0 ∷ 0 ∷ 3 ∷ 64 ∷ 132 ∷ 0 ∷ 0 ∷ 5 ∷ []) (1 ∷ 0 ∷ 1 ∷ 1 ∷ [])
+    ∷ plain 5 1 (32 ∷ 4 ∷ 0 ∷ 0 ∷ 3 ∷ 64 ∷ 132 ∷ 0 ∷ 0 ∷ 5 ∷ []) (1 ∷ [])
     ∷ plain 53 4 (32 ∷ 4 ∷ 0 ∷ 0 ∷ 3 ∷ 32 ∷ 136 ∷ 0 ∷ 0 ∷ 13 ∷ 33 ∷ 8 ∷ 0 ∷ 0 ∷ 53 ∷ []) (1 ∷ 1 ∷ 0 ∷ 1 ∷ 0 ∷ 1 ∷ 0 ∷ 1 ∷ 0 ∷ 1 ∷ 0 ∷ 1 ∷ 1 ∷ 0 ∷ 1 ∷ 0 ∷ 0 ∷ 0 ∷ 0 ∷ 0 ∷ 0 ∷ 0 ∷ 1 ∷ 1 ∷ 0 ∷ 0 ∷ 1 ∷ 0 ∷ 1 ∷ 0 ∷ 1 ∷ 1 ∷ 0 ∷ 0 ∷ 0 ∷ 0 ∷ 0 ∷ 1 ∷ [])
     ∷ plain 59 3 (64 ∷ 24 ∷ 0 ∷ 0 ∷ 63 ∷ 96 ∷ 136 ∷ 0 ∷ 0 ∷ 59 ∷ []) (1 ∷ 0 ∷ 1 ∷ 1 ∷ 0 ∷ 0 ∷ 0 ∷ 0 ∷ 1 ∷ 0 ∷ 1 ∷ 1 ∷ 1 ∷ 0 ∷ 0 ∷ 1 ∷ 0 ∷ 1 ∷ 1 ∷ 1 ∷ 0 ∷ 1 ∷ 0 ∷ 1 ∷ 1 ∷ [])
     ∷ plain 1 1 ([]) (1 ∷ [])
@@ -53,7 +53,7 @@ cases =
     ∷ plain 3 3 (64 ∷ 12 ∷ 0 ∷ 0 ∷ 7 ∷ 96 ∷ 136 ∷ 0 ∷ 0 ∷ 3 ∷ []) (1 ∷ 1 ∷ 1 ∷ 0 ∷ 0 ∷ 0 ∷ 0 ∷ 0 ∷ 1 ∷ 1 ∷ 1 ∷ 1 ∷ 1 ∷ 0 ∷ 0 ∷ 0 ∷ 1 ∷ [])
     ∷ plain 45 16 (32 ∷ 8 ∷ 0 ∷ 0 ∷ 5 ∷ 32 ∷ 140 ∷ 16 ∷ 0 ∷ 45 ∷ []) (1 ∷ 0 ∷ 0 ∷ 0 ∷ 1 ∷ 1 ∷ 0 ∷ 0 ∷ 0 ∷ 0 ∷ 1 ∷ 0 ∷ 1 ∷ 0 ∷ 1 ∷ 1 ∷ 1 ∷ 0 ∷ 0 ∷ 0 ∷ 1 ∷ 0 ∷ 1 ∷ 0 ∷ 1 ∷ 0 ∷ 1 ∷ 0 ∷ 0 ∷ 0 ∷ 0 ∷ 0 ∷ 1 ∷ 0 ∷ 0 ∷ 0 ∷ 0 ∷ 1 ∷ 1 ∷ 0 ∷ 0 ∷ 1 ∷ 0 ∷ 1 ∷ 0 ∷ 1 ∷ 0 ∷ 1 ∷ 1 ∷ 0 ∷ 1 ∷ 0 ∷ 0 ∷ 1 ∷ 0 ∷ 1 ∷ 1 ∷ 1 ∷ 0 ∷ 1 ∷ 0 ∷ 1 ∷ 1 ∷ 1 ∷ 1 ∷ 0 ∷ 0 ∷ 0 ∷ 0 ∷ 1 ∷ 1 ∷ 0 ∷ 0 ∷ 0 ∷ 1 ∷ 0 ∷ 0 ∷ 0 ∷ 1 ∷ 0 ∷ 0 ∷ 0 ∷ 0 ∷ 0 ∷ 1 ∷ [])
     ∷ record { c = 3; w = 2; x = negsuc 3 ∷ pos 2 ∷ []; first = 7; recipe = 32 ∷ 4 ∷ 0 ∷ 0 ∷ 3 ∷ []; values = 1 ∷ 0 ∷ 1 ∷ 0 ∷ 1 ∷ 1 ∷ 1 ∷ 0 ∷ 0 ∷ 0 ∷ [] }
-    ∷ record { c = 5; w = 3; x = negsuc 3 ∷ pos 2 ∷ pos 9 ∷ []; first = 12; recipe = 32 ∷ 4 ∷ 0 ∷ 0 ∷ 3 ∷ 64 ∷ 132 ∷ 0 ∷ 0 ∷ 5 ∷ []; values = 1 ∷ 0 ∷ 1 ∷ 0 ∷ 1 ∷ 1 ∷ 0 ∷ 0 ∷ 1 ∷ 1 ∷ 0 ∷ 1 ∷ 0 ∷ 1 ∷ 0 ∷ 1 ∷ 0 ∷ 0 ∷ 1 ∷ 0 ∷ 1 ∷ 1 ∷ 1 ∷ 1 ∷ 1 ∷ 0 ∷ [] }
+    ∷ record { c = 5; w = 3; x = negsuc 3 ∷ pos 2 ∷ pos 9 ∷ []; first = 12; recipe = 32 ∷ 4 ∷ 0 ∷ 0 ∷ 3 ∷ 64 ∷ 132 ∷ 0 ∷ 0 ∷ 5 ∷ []; values = 1 ∷ 0 ∷ 1 ∷ 0 ∷ 1 ∷ 1 ∷ 0 ∷ 0 ∷ 1 ∷ 1 ∷ 0 ∷ 1 ∷ 0 ∷ 1 ∷ 0 ∷ 1 ∷ 0 ∷ 0 ∷ 1 ∷ 1 ∷ 1 ∷ 1 ∷ 1 ∷ 0 ∷ [] }
     ∷ record { c = 12; w = 2; x = pos 2 ∷ negsuc 0 ∷ []; first = 3; recipe = 32 ∷ 4 ∷ 0 ∷ 0 ∷ 3 ∷ []; values = 1 ∷ 1 ∷ 1 ∷ 0 ∷ 0 ∷ 0 ∷ [] }
     ∷ record { c = 59; w = 3; x = pos 5 ∷ negsuc 0 ∷ negsuc 2 ∷ []; first = 9; recipe = 64 ∷ 24 ∷ 0 ∷ 0 ∷ 63 ∷ 96 ∷ 136 ∷ 0 ∷ 0 ∷ 59 ∷ []; values = 0 ∷ 1 ∷ 0 ∷ 1 ∷ 1 ∷ 0 ∷ 0 ∷ 1 ∷ 0 ∷ 0 ∷ 0 ∷ 0 ∷ 0 ∷ 1 ∷ 1 ∷ 1 ∷ 1 ∷ 1 ∷ 0 ∷ 1 ∷ 0 ∷ 1 ∷ 0 ∷ 0 ∷ 1 ∷ 0 ∷ 1 ∷ 1 ∷ 1 ∷ 1 ∷ [] }
     ∷ []
@@ -125,7 +125,7 @@ all-found [] e = tt
 all-found (k ∷ ks) e = (found k (and-left _ _ e), all-found ks (and-right (test k) _ e))
 
 tested : tests cases ≡ true
-unfolding cases written write-answer product-of lines-from product encoded line-encoded line-sum adder column carry-unless carry sum parity both either most shifted fitted columns numbered digits-by bit-length halvings-by twos odd-part kind-of gives claims judged lines-checked recipe-checked clauses-from
+unfolding cases written write-answer product-of lines-from product encoded line-encoded line-sum adder column carry-unless carry-of sum-of carry sum parity both either most shifted fitted columns numbered digits-by bit-length halvings-by twos odd-part kind-of gives claims judged lines-checked recipe-checked clauses-from
 tested = refl
 
 pub instances : All-found cases

@@ -7,6 +7,9 @@ pub mod ShapeMeans
 pub mod Nexts
 pub mod Renamed
 pub mod Given
+pub mod Distinct
+pub mod PairMeans
+pub mod AnyPair
 pub mod ColumnMeans
 pub mod AdderMeans
 pub mod LineMeans

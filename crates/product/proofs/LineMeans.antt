@@ -4,23 +4,23 @@
 -- The minus kinds are told as sums (k + r = 2^s * l), so nothing is subtracted.
 use Prim.Native.Nat.{ℕ, zero, suc, _+_, _*_, _%_, _^_, _<_}
 use mathlib.Core.Path.{_≡_, refl, sym, ap, _∙_}
-use mathlib.Core.Bool.{Bool, true, false, not}
+use mathlib.Core.Bool.{true, false}
 use mathlib.Core.List.{List, [], _∷_, map}
 use native.Mathlib.Nat.{le-refl, pow-suc}
 use native.Mathlib.Omega.{arith}
 use lib.Arith.{digits-mod}
 use lib.IntN.{pos}
-use lib.ListN.{length, length-map}
+use lib.ListN.{length}
 use Rattle.line.specs.Line.{Kind, splus, sminus, minuss, gives}
 use Rattle.line.proofs.Value.{Sums, sums-of-gives}
 use Rattle.cnf.specs.Clause.{Assignment, value, satisfies}
 use Rattle.cnf.proofs.Extend.{Extends, Fresh}
-use Rattle.product.specs.Bit.{Bit, fixed, unfixed, flip, bit-value, num, reads}
+use Rattle.product.specs.Bit.{Bit, fixed, unfixed, flip, bit-value, reads}
 use Rattle.product.specs.Lines.{adder, shifted, fitted, line-sum}
 use Rattle.product.proofs.Lengths.{length-fitted, length-flipped}
-use Rattle.product.proofs.ShapeMeans.{flips-not}
+use Rattle.product.proofs.PairMeans.{flip-number}
 use Rattle.product.specs.Demand.{Bit-below, Bits-below}
-use Rattle.product.proofs.ColumnMeans.{bit-number, num-le}
+use Rattle.product.proofs.ColumnMeans.{num-le}
 use Rattle.product.proofs.AdderMeans.{twice, Adds, adder-adds}
 
 -- ---- equal up to multiples of 2 ^ m
@@ -58,15 +58,6 @@ unfolding fitted
 reads-fitted α zero bs = (reads α bs, omega arith)
 reads-fitted α (suc m) [] = (0, omega (arith, reads-fitted α m [] .1))
 reads-fitted α (suc m) (b ∷ bs) = (reads-fitted α m bs .0, omega (arith, reads-fitted α m bs .1, twice m (reads-fitted α m bs .0)))
-
-flip-number : (α : Assignment) (b : Bit) → bit-number α (flip b) + bit-number α b ≡ 1
-flip-number α (fixed true) = refl
-flip-number α (fixed false) = refl
-flip-number α (unfixed l) = ap (λ (b : Bool). num b + num (value α l)) (flips-not (l .negated) (α (l .variable))) ∙ go (value α l)
-  where
-    go : (b : Bool) → num (not b) + num b ≡ 1
-    go true = refl
-    go false = refl
 
 reads-flip : (α : Assignment) (bs : List Bit) → reads α (map flip bs) + reads α bs + 1 ≡ 2 ^ length bs
 reads-flip α [] = refl

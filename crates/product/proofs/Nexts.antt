@@ -10,7 +10,7 @@ use Rattle.line.specs.Line.{Kind, splus, sminus, minuss, kind-of}
 use Rattle.line.specs.declared.Line.{Line}
 use Rattle.cnf.specs.Clause.{Literal}
 use Rattle.product.specs.Bit.{Bit}
-use Rattle.product.specs.Column.{fixed-sum, literals, sum, carry, carry-unless, column}
+use Rattle.product.specs.Column.{Pair, none, equal, opposite, first-pair, sum, carry, sum-of, carry-of, carry-unless, column}
 use Rattle.product.specs.Lines.{none-left, adder, fitted, line-sum, columns, line-encoded, encoded}
 use Rattle.product.specs.Product.{product}
 use Rattle.product.proofs.Lengths.{length-fitted}
@@ -19,30 +19,43 @@ use Rattle.product.proofs.Lengths.{length-fitted}
 abbrev pub Grows : ℕ → ℕ → ℕ → Type 0
 Grows n k next = (n ≤ next) × (next ≤ n + k)
 
-pub sum-grows : (f n : ℕ) (ps : List Literal) → Grows n 1 (sum f ps n .next)
+sum-grows : (f n : ℕ) (ps : List Literal) → Grows n 1 (sum f ps n .next)
 unfolding sum
 sum-grows f n [] = (omega arith, omega arith)
 sum-grows f n (p ∷ []) = (omega arith, omega arith)
 sum-grows f n (p ∷ q ∷ ps) = (omega arith, omega arith)
 
-pub carry-grows : (last : Bool) (f n : ℕ) (ps : List Literal) → Grows n 1 (carry-unless last f ps n .next)
-unfolding carry carry-unless
-carry-grows true f n ps = (omega arith, omega arith)
-carry-grows false f n [] = (omega arith, omega arith)
-carry-grows false zero n (p ∷ []) = (omega arith, omega arith)
-carry-grows false (suc zero) n (p ∷ []) = (omega arith, omega arith)
-carry-grows false (suc (suc f)) n (p ∷ []) = (omega arith, omega arith)
-carry-grows false zero n (p ∷ q ∷ []) = (omega arith, omega arith)
-carry-grows false (suc f) n (p ∷ q ∷ []) = (omega arith, omega arith)
-carry-grows false zero n (p ∷ q ∷ r ∷ ps) = (omega arith, omega arith)
-carry-grows false (suc f) n (p ∷ q ∷ r ∷ ps) = (omega arith, omega arith)
+carry-grows : (f n : ℕ) (ps : List Literal) → Grows n 1 (carry f ps n .next)
+unfolding carry
+carry-grows f n [] = (omega arith, omega arith)
+carry-grows zero n (p ∷ []) = (omega arith, omega arith)
+carry-grows (suc zero) n (p ∷ []) = (omega arith, omega arith)
+carry-grows (suc (suc f)) n (p ∷ []) = (omega arith, omega arith)
+carry-grows zero n (p ∷ q ∷ []) = (omega arith, omega arith)
+carry-grows (suc f) n (p ∷ q ∷ []) = (omega arith, omega arith)
+carry-grows zero n (p ∷ q ∷ r ∷ ps) = (omega arith, omega arith)
+carry-grows (suc f) n (p ∷ q ∷ r ∷ ps) = (omega arith, omega arith)
+
+sum-of-grows : (k : Pair) (bs : List Bit) (n : ℕ) → Grows n 1 (sum-of k bs n .next)
+unfolding sum-of
+sum-of-grows none bs n = sum-grows _ n _
+sum-of-grows (equal p r) bs n = sum-grows _ n _
+sum-of-grows (opposite r) bs n = sum-grows _ n _
+
+pub carry-of-grows : (last : Bool) (k : Pair) (bs : List Bit) (n : ℕ) → Grows n 1 (carry-unless last k bs n .next)
+unfolding carry-of carry-unless
+carry-of-grows true k bs n = (omega arith, omega arith)
+carry-of-grows false none bs n = carry-grows _ n _
+carry-of-grows false (equal p r) bs n = (omega arith, omega arith)
+carry-of-grows false (opposite r) bs n = (omega arith, omega arith)
 
 pub column-grows : (l r c : Bit) (last : Bool) (n : ℕ) → Grows n 2 (column l r c last n .next)
 unfolding column
 column-grows l r c last n =
     let inputs : List Bit = l ∷ r ∷ c ∷ [] in
-    let s = sum-grows (fixed-sum inputs) n (literals inputs) in
-    let t = carry-grows last (fixed-sum inputs) (sum (fixed-sum inputs) (literals inputs) n .next) (literals inputs) in
+    let k : Pair = first-pair l r c in
+    let s = sum-of-grows k inputs n in
+    let t = carry-of-grows last k inputs (sum-of k inputs n .next) in
     (omega (arith, s .0, t .0), omega (arith, s .1, t .1))
 
 pub adder-grows : (ls rs : List Bit) (c : Bit) (n : ℕ) → Grows n (2 * length ls) (adder ls rs c n .next)

@@ -1,22 +1,24 @@
 -- Names do not matter: where variables are renamed, with signs, and new variables go to new variables, every column, sum, line, recipe and
 -- product is the old one renamed. So how many words, clauses and new variables there are does not depend on the names.
 --
--- Only `column-renamed` knows what a column is; all above it knows `Column-renamed`. Distinct variables stay distinct (`apart`), for a column
--- that asks whether two inputs name one variable.
+-- Only `column-renamed` knows what a column is; all above it knows `Column-renamed`. Distinct variables stay distinct (`apart`), since a column
+-- asks whether two inputs name one variable.
 use Prim.Native.Nat.{ℕ, zero, suc, _+_}
 use mathlib.Core.Path.{_≡_, refl, sym, ap, ap₂, _∙_}
-use mathlib.Core.Bool.{Bool, true, false, not}
+use mathlib.Core.Bool.{Bool, true, false, not, Bool·beq}
 use mathlib.Core.List.{List, [], _∷_, _++_, map, map-append}
 use native.Mathlib.Nat.{add-zero}
+use native.Mathlib.Decide.{ℕ-discrete}
 use native.Mathlib.Omega.{arith}
+use borrow.Author.Tests.{eq-eqb, ne-eqb}
 use lib.IntN.{pos}
 use lib.ListN.{length, getD, length-append, length-map, List·getD-map}
 use Rattle.line.specs.Line.{Kind, splus, sminus, minuss, kind-of}
 use Rattle.line.specs.declared.Line.{Line}
-use Rattle.cnf.specs.Clause.{Literal, Clause, signed, negation, new}
+use Rattle.cnf.specs.Clause.{Literal, Clause, flips, signed, negation, new}
 use Rattle.cnf.specs.Words.{word, words}
 use Rattle.product.specs.Bit.{Bit, fixed, unfixed, flip}
-use Rattle.product.specs.Column.{fixed-sum, literals, odd, Made, parity, sum, both, either, most, carry, carry-unless, Column, column}
+use Rattle.product.specs.Column.{fixed-sum, literals, odd, Pair, none, equal, opposite, pair-by, pair-or, first-pair, Made, parity, sum, both, either, most, carry, sum-of, carry-of, carry-unless, Column, column}
 use Rattle.product.specs.Lines.{Sum, adder, shifted, fitted, line-sum, columns, line-encoded, Encoded, encoded}
 use Rattle.product.specs.Product.{last, Product, product}
 use Rattle.product.specs.Renaming.{Renaming, literal-renamed}
@@ -130,11 +132,6 @@ module _ (ρ : Renaming) where
     carry-renamed zero (p ∷ q ∷ r ∷ ps) = opened-renamed _ _ (most-renamed p q r)
     carry-renamed (suc f) (p ∷ q ∷ r ∷ ps) = opened-renamed _ _ (most-renamed p q r)
 
-    carry-unless-renamed : (last : Bool) (f : ℕ) (ps : List Literal) → Made-renamed n m (carry-unless last f ps n) (carry-unless last f (map (literal-renamed ρ) ps) m)
-    unfolding carry-unless
-    carry-unless-renamed true f ps = plain-renamed _ _ refl
-    carry-unless-renamed false f ps = carry-renamed f ps
-
   -- ---- the inputs
 
   fixed-sum-renamed : (bs : List Bit) → fixed-sum (bits-renamed ρ bs) ≡ fixed-sum bs
@@ -147,6 +144,65 @@ module _ (ρ : Renaming) where
   literals-renamed [] = refl
   literals-renamed (fixed b ∷ bs) = literals-renamed bs
   literals-renamed (unfixed l ∷ bs) = ap (λ (ls : List Literal). literal-renamed ρ l ∷ ls) (literals-renamed bs)
+
+  -- ---- the first pair of inputs of one variable: the names of two variables are one exactly where the variables are
+
+  abbrev pair-renamed : Pair → Pair
+  pair-renamed none = none
+  pair-renamed (equal p r) = equal (bit-renamed ρ p) (bit-renamed ρ r)
+  pair-renamed (opposite r) = opposite (bit-renamed ρ r)
+
+  same-sign : (s t b : Bool) → Bool·beq (flips s b) (flips t b) ≡ Bool·beq s t
+  same-sign true true true = refl
+  same-sign true true false = refl
+  same-sign true false true = refl
+  same-sign true false false = refl
+  same-sign false true true = refl
+  same-sign false true false = refl
+  same-sign false false true = refl
+  same-sign false false false = refl
+
+  module _ {n m : ℕ} (h : Renames ρ n m) where
+    pair-or-renamed : (a b r : Bit) (k k′ : Pair) → k′ ≡ pair-renamed k
+        → pair-or (bit-renamed ρ a) (bit-renamed ρ b) (bit-renamed ρ r) k′ ≡ pair-renamed (pair-or a b r k)
+    pair-or-renamed (fixed a) b r k k′ e = e
+    pair-or-renamed (unfixed p) (fixed b) r k k′ e = e
+    pair-or-renamed (unfixed p) (unfixed q) r k k′ e = go (ℕ-discrete (p .variable) (q .variable))
+      where
+        signs : (s : Bool) → pair-by true s (bit-renamed ρ (unfixed p)) (bit-renamed ρ r) k′ ≡ pair-renamed (pair-by true s (unfixed p) r k)
+        signs true = refl
+        signs false = refl
+
+        go : Dec (p .variable ≡ q .variable)
+            → pair-or (bit-renamed ρ (unfixed p)) (bit-renamed ρ (unfixed q)) (bit-renamed ρ r) k′ ≡ pair-renamed (pair-or (unfixed p) (unfixed q) r k)
+        go (yes f) =
+            let b : Bool = ρ (p .variable) .negated in
+            let g : Bool·beq (flips (p .negated) b) (flips (q .negated) (ρ (q .variable) .negated)) ≡ Bool·beq (p .negated) (q .negated) =
+            ap (λ (v : ℕ). Bool·beq (flips (p .negated) b) (flips (q .negated) (ρ v .negated))) (sym f) ∙ same-sign (p .negated) (q .negated) b in
+            rw (eq-eqb (p .variable) (q .variable) f, eq-eqb (ρ (p .variable) .variable) (ρ (q .variable) .variable) (ap (λ (v : ℕ). ρ v .variable) f), g)
+            (signs (Bool·beq (p .negated) (q .negated)))
+        go (no f) =
+            rw (
+              ne-eqb (p .variable) (q .variable) f,
+              ne-eqb (ρ (p .variable) .variable) (ρ (q .variable) .variable) (λ g. f (h .apart (p .variable) (q .variable) g)),
+            ) e
+
+    first-pair-renamed : (l r c : Bit) → first-pair (bit-renamed ρ l) (bit-renamed ρ r) (bit-renamed ρ c) ≡ pair-renamed (first-pair l r c)
+    first-pair-renamed l r c = pair-or-renamed l r c _ _ (pair-or-renamed l c r _ _ (pair-or-renamed r c l none none refl))
+
+    sum-of-renamed : (k : Pair) (bs : List Bit) → Made-renamed n m (sum-of k bs n) (sum-of (pair-renamed k) (bits-renamed ρ bs) m)
+    unfolding sum-of
+    sum-of-renamed none bs = rw (fixed-sum-renamed bs, literals-renamed bs) (sum-renamed h _ _)
+    sum-of-renamed (equal p r) bs = rw (fixed-sum-renamed (r ∷ []), literals-renamed (r ∷ [])) (sum-renamed h _ _)
+    sum-of-renamed (opposite r) bs = rw (fixed-sum-renamed (r ∷ []), literals-renamed (r ∷ [])) (sum-renamed h _ _)
+
+    carry-of-renamed : (last : Bool) (k : Pair) (bs : List Bit)
+        → Made-renamed n m (carry-unless last k bs n) (carry-unless last (pair-renamed k) (bits-renamed ρ bs) m)
+    unfolding carry-of carry-unless
+    carry-of-renamed true k bs = plain-renamed h _ _ refl
+    carry-of-renamed false none bs = rw (fixed-sum-renamed bs, literals-renamed bs) (carry-renamed h _ _)
+    carry-of-renamed false (equal p r) bs = plain-renamed h _ _ refl
+    carry-of-renamed false (opposite r) bs = plain-renamed h _ _ refl
 
   -- ---- the column
 
@@ -163,13 +219,12 @@ module _ (ρ : Renaming) where
   unfolding column
   column-renamed {n} {m} h l r c last =
       let inputs : List Bit = l ∷ r ∷ c ∷ [] in
-      let f : ℕ = fixed-sum inputs in
-      let ps : List Literal = literals inputs in
-      let s = sum-renamed h f ps in
-      let t = carry-unless-renamed (renames-more (s .opened) h (s .next) (s .next′)) last f ps in
-      let s₀ : Made = sum f ps n in
-      let t₀ : Made = carry-unless last f ps (s₀ .next) in
-      rw (fixed-sum-renamed inputs, literals-renamed inputs) (record {
+      let k : Pair = first-pair l r c in
+      let s = sum-of-renamed h k inputs in
+      let t = carry-of-renamed (renames-more (s .opened) h (s .next) (s .next′)) last k inputs in
+      let s₀ : Made = sum-of k inputs n in
+      let t₀ : Made = carry-unless last k inputs (s₀ .next) in
+      rw (first-pair-renamed h l r c) (record {
         sum-bit = s .bit;
         carry-bit = t .bit;
         clauses = ap₂ (λ (cs ds : List Clause). cs ++ ds) (s .clauses) (t .clauses) ∙ sym (map-append (clause-renamed ρ) (s₀ .clauses) (t₀ .clauses));

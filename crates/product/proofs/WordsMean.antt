@@ -1,7 +1,7 @@
 -- A product that multiplies, as words and entries: each list of values of the variables below first extends to exactly one of those below
 -- next that satisfies the clauses that the words are, and there the entries read as c times x. And what is counted off the words.
 use Prim.Native.Nat.{ℕ, zero, suc, _+_, _-_, _*_, _≤_, _<_}
-use mathlib.Core.Path.{_≡_, refl, sym, ap, _∙_}
+use mathlib.Core.Path.{_≡_, refl, sym, ap, _∙_, subst}
 use mathlib.Core.Logic.{_≢_}
 use mathlib.Core.Bool.{Bool, true, false}
 use mathlib.Core.List.{List, [], _∷_, map}
@@ -10,7 +10,7 @@ use native.Mathlib.Omega.{arith}
 use lib.ListN.{length, getD, take}
 use lib.IntN.{ℤ}
 use lib.Seq.{ext-getD, length-take-le}
-use Rattle.cnf.specs.Clause.{Assignment, flips, satisfies}
+use Rattle.cnf.specs.Clause.{Assignment, flips, satisfies, All-distinct}
 use Rattle.cnf.specs.Words.{From-1, word-by, clauses-of, satisfies-words, highest-named, Distinct-below}
 use Rattle.cnf.proofs.Extend.{past, Agree, satisfies-local}
 use Rattle.cnf.proofs.Words.{clauses-of-words, highest-of-words}
@@ -79,6 +79,11 @@ module _ (c : ℕ) (x : List ℤ) (first : ℕ) (fit : Distinct-below first x) (
 
   pub entries-multiply : (α : Assignment) → satisfies α (p .clauses) ≡ true → entries-read α (y-entries p) ≡ c * entries-read α x
   entries-multiply α s = entries-of-y (p .next) α (p .y) (f .below) no-bit-fixed-at-1 ∙ f .value α s ∙ ap (λ (k : ℕ). c * k) (reads-given first α x fit)
+
+  -- ---- no variable twice
+
+  pub words-distinct : All-distinct (clauses-of (clause-words p))
+  words-distinct = subst All-distinct (sym (clauses-of-words (p .next) (p .clauses) (f .extends .names))) (f .extends .distinct)
 
   -- ---- demand 2
 

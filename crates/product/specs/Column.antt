@@ -1,7 +1,8 @@
 -- A column: the only place that opens a variable or makes a clause (document 01, "From line to clauses").
 use Prim.Native.Nat.{ℕ, zero, suc}
-use mathlib.Core.Bool.{Bool, true, false, not}
+use mathlib.Core.Bool.{Bool, true, false, not, Bool·beq}
 use mathlib.Core.List.{List, [], _∷_, _++_, map}
+use lib.Dec.{eqb}
 use Rattle.cnf.specs.Clause.{Literal, Clause, signed, negation, new}
 use Rattle.product.specs.Bit.{Bit, fixed, unfixed}
 
@@ -27,6 +28,31 @@ abbrev pub at-least-two : ℕ → Bool
 at-least-two zero = false
 at-least-two (suc zero) = false
 at-least-two (suc (suc n)) = true
+
+-- ---- pairs: two unfixed inputs of one variable (document 02, request b)
+
+-- the first pair: equal, with its literal, or opposite; and the input that remains
+pub data Pair : Type 0 where
+  none : Pair
+  equal : Bit → Bit → Pair
+  opposite : Bit → Pair
+
+abbrev pub pair-by : Bool → Bool → Bit → Bit → Pair → Pair
+pair-by true true a r later = equal a r
+pair-by true false a r later = opposite r
+pair-by false same a r later = later
+
+-- a and b with r remaining, if they are a pair; else what comes later
+abbrev pub pair-or : Bit → Bit → Bit → Pair → Pair
+pair-or (fixed a) b r later = later
+pair-or (unfixed p) (fixed b) r later = later
+pair-or (unfixed p) (unfixed q) r later = pair-by (eqb (p .variable) (q .variable)) (Bool·beq (p .negated) (q .negated)) (unfixed p) r later
+
+-- first and second input, first and third, second and third
+abbrev pub first-pair : Bit → Bit → Bit → Pair
+first-pair left right over = pair-or left right over (pair-or left over right (pair-or right over left none))
+
+-- ---- what is made
 
 -- a bit, the clauses that tie it to the inputs, and the next free variable
 pub record Made : Type 0 where
@@ -81,10 +107,24 @@ carry zero (p ∷ q ∷ []) n = opened n (both p q (new n))
 carry (suc f) (p ∷ q ∷ []) n = opened n (either p q (new n))
 carry f (p ∷ q ∷ r ∷ ps) n = opened n (most p q r (new n))
 
+-- ---- the sum and the carry of inputs with their first pair
+
+-- both of a pair leave the sum; opposite ones flip its parity; its cases apply to what remains
+unfoldable pub sum-of : Pair → List Bit → ℕ → Made
+sum-of none inputs n = sum (fixed-sum inputs) (literals inputs) n
+sum-of (equal p r) inputs n = sum (fixed-sum (r ∷ [])) (literals (r ∷ [])) n
+sum-of (opposite r) inputs n = sum (suc (fixed-sum (r ∷ []))) (literals (r ∷ [])) n
+
+-- equal ones carry their literal, opposite ones the remaining input
+unfoldable pub carry-of : Pair → List Bit → ℕ → Made
+carry-of none inputs n = carry (fixed-sum inputs) (literals inputs) n
+carry-of (equal p r) inputs n = plain p n
+carry-of (opposite r) inputs n = plain r n
+
 -- the last column has no carry
-unfoldable pub carry-unless : Bool → ℕ → List Literal → ℕ → Made
-carry-unless true f ps n = plain (fixed false) n
-carry-unless false f ps n = carry f ps n
+unfoldable pub carry-unless : Bool → Pair → List Bit → ℕ → Made
+carry-unless true pair inputs n = plain (fixed false) n
+carry-unless false pair inputs n = carry-of pair inputs n
 
 -- ---- the column: sum before carry
 
@@ -94,10 +134,13 @@ pub record Column : Type 0 where
   pub clauses : List Clause
   pub next : ℕ
 
+-- the column of inputs with that pair
+abbrev pub column-of : Pair → List Bit → Bool → ℕ → Column
+column-of pair inputs last n =
+    let s : Made = sum-of pair inputs n in
+    let t : Made = carry-unless last pair inputs (s .next) in
+    record { sum-bit = s .bit; carry-bit = t .bit; clauses = s .clauses ++ t .clauses; next = t .next }
+
 -- the inputs in the order left term, right term, carry; whether the column is the last; the next free variable
 unfoldable pub column : Bit → Bit → Bit → Bool → ℕ → Column
-column left right over last n =
-    let inputs : List Bit = left ∷ right ∷ over ∷ [] in
-    let s : Made = sum (fixed-sum inputs) (literals inputs) n in
-    let t : Made = carry-unless last (fixed-sum inputs) (literals inputs) (s .next) in
-    record { sum-bit = s .bit; carry-bit = t .bit; clauses = s .clauses ++ t .clauses; next = t .next }
+column left right over last n = column-of (first-pair left right over) (left ∷ right ∷ over ∷ []) last n

@@ -16,7 +16,7 @@ use Rattle.split.specs.Choose.{look, split-of}
 use Rattle.split.specs.Order.{zero-bits, rank, key, put-in, ordered, coefficients, place-in, operand, line-for, lines-bytes, recipe-for}
 use Rattle.split.proofs.Cases.{agreed-splits-right}
 use Rattle.product.specs.Bit.{numbered}
-use Rattle.product.specs.Column.{parity, sum, both, either, most, carry, carry-unless, column}
+use Rattle.product.specs.Column.{parity, sum, both, either, most, carry, sum-of, carry-of, carry-unless, column}
 use Rattle.product.specs.Lines.{adder, shifted, fitted, line-sum, columns, line-encoded, encoded}
 use Rattle.product.specs.Product.{product, lines-from, product-of}
 use Rattle.wording.specs.Decimal as decimals
@@ -52,7 +52,7 @@ abbrev pub Right : (ℕ → ℕ) → List Printed → Type 0
 Right t cases = map (answered t) cases ≡ cases
 
 by-table : Right agreed-lookup (agreed .printed)
-unfolding agreed agreed-splits look digits-by bit-length halvings-by twos odd-part kind-of low high left-at right-at follow reach-by fuel reach member add adds set-of ones zero-bits rank key put-in ordered coefficients place-in operand line-for lines-bytes recipe-for numbered parity sum both either most carry carry-unless column adder shifted fitted line-sum columns line-encoded encoded product lines-from product-of decimals.digits-by decimal signed-decimal value-from front width-asked asked line-1 entries line-2 line-3 word-text words-text file-text refused-text product-text printed-by
+unfolding agreed agreed-splits look digits-by bit-length halvings-by twos odd-part kind-of low high left-at right-at follow reach-by fuel reach member add adds set-of ones zero-bits rank key put-in ordered coefficients place-in operand line-for lines-bytes recipe-for numbered parity sum both either most carry sum-of carry-of carry-unless column adder shifted fitted line-sum columns line-encoded encoded product lines-from product-of decimals.digits-by decimal signed-decimal value-from front width-asked asked line-1 entries line-2 line-3 word-text words-text file-text refused-text product-text printed-by
 by-table = refl
 
 pub agreed-right : Right split-of (agreed .printed)

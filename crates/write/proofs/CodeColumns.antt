@@ -1,102 +1,188 @@
--- A column of codes is document 01's column of their bits: the inputs, the sum, the carry, and all together.
-use Prim.Native.Nat.{ℕ, zero, suc, _+_, _*_, _%_, _<_, _≤_}
+-- A column of codes is document 01's column of their bits, with request b's pairs: the inputs, the sum, the carry, and all together.
+use Prim.Native.Nat.{ℕ, zero, suc, _+_, _*_, _/_, _%_, _<_, _≤_}
 use mathlib.Core.Path.{_≡_, refl, sym, ap, ap₂, subst, _∙_}
-use mathlib.Core.Bool.{Bool, true, false}
-use mathlib.Core.List.{List, [], _∷_, _++_, append-nil}
+use mathlib.Core.Bool.{Bool, true, false, cond, Bool·beq}
+use mathlib.Core.List.{List, [], _∷_, _++_}
 use native.Mathlib.Omega.{arith}
 use native.Mathlib.Numerals.{add-one}
 use native.Mathlib.Decide.{decLt}
-use lib.ListN.{length, length-append}
-use borrow.Author.Tests.{lt-ltb, le-ltb}
+use lib.Dec.{eqb}
+use borrow.Author.Tests.{eq-eqb, ne-eqb}
 use Rattle.cnf.specs.Clause.{Literal, Clause, negation, new}
-use Rattle.product.specs.Bit.{Bit, fixed, unfixed}
-use Rattle.product.specs.Column.{fixed-sum, literals, odd, parity, sum, both, either, most, carry, carry-unless, Made, Column, column}
-use Rattle.gates.specs.Code.{literal-of, bit-of, flipped-code}
+use Rattle.product.specs.Bit.{Bit, fixed, unfixed, flip}
+use Rattle.product.specs.Column.{fixed-sum, literals, odd, Pair, none, equal, opposite, pair-by, pair-or, first-pair, parity, sum, both, either, most, carry, sum-of, carry-of, carry-unless, Made, plain, column}
+use Rattle.product.proofs.AnyPair.{Alike}
+use Rattle.product.proofs.Nexts.{carry-of-grows}
+use Rattle.product.proofs.ColumnMeans.{sum-remains, sum-flips}
+use Rattle.gates.specs.Code.{code-sign, literal-of, bit-of, flipped-code}
 use Rattle.gates.specs.Gate.{column-clauses}
-use Rattle.write.specs.Column.{unfixed-literals, NoneFixed, with-unfixed, with-input, Sees, MatchesBit, MatchesColumn}
-use Rattle.write.specs.declared.column.Unfixed.{Unfixed}
-use Rattle.write.specs.declared.column.Unfixed.the-variants.{Nil, One, Two, Three}
+use Rattle.write.specs.Column.{pair-of-codes, inputs-sum, inputs-carry, FixedFew, Sees, MatchesBit, MatchesColumn}
 use Rattle.write.specs.declared.column.Inputs.{Inputs}
+use Rattle.write.specs.declared.column.Inputs.the-variants.{Equal, Opposite, Two, Three}
 use Rattle.gates.specs.declared.Gate.the-variants.{Empty, ParityOfTwo, ParityOfThree, Both, Most}
 use Rattle.write.specs.declared.column.MadeBit.{MadeBit}
-use Rattle.write.specs.declared.column.MadeColumn.{MadeColumn}
-use Rattle.gates.proofs.Codes.{literal-negated, literal-new, new-flipped, bit-zero, bit-literal, bit-new, bit-flipped, bit-mod}
+use Rattle.gates.proofs.Codes.{sign-even, sign-odd, even-or-odd, literal-negated, literal-new, new-flipped, flipped-odd, bit-zero, bit-fixed, bit-literal, bit-new, bit-negated}
 use Rattle.gates.proofs.GateWords.{flips-false, not-twice}
-use Rattle.product.proofs.Nexts.{carry-grows}
+
+-- ---- pairs of any bits: two fixed bits are a pair too
+
+abbrev any-pair-or : Bit → Bit → Bit → Pair → Pair
+any-pair-or (fixed a) (fixed b) r later = pair-by true (Bool·beq a b) (fixed a) r later
+any-pair-or (fixed a) (unfixed q) r later = later
+any-pair-or (unfixed p) b r later = pair-or (unfixed p) b r later
+
+abbrev any-first-pair : Bit → Bit → Bit → Pair
+any-first-pair l r c = any-pair-or l r c (any-pair-or l c r (any-pair-or r c l none))
+
+-- a pair of fixed bits says what their sum says
+any-pair-alike : (l r c : Bit) → Alike (l ∷ r ∷ c ∷ []) (any-first-pair l r c) (first-pair l r c)
+unfolding sum carry sum-of carry-of
+any-pair-alike (fixed true) (fixed true) (fixed true) n = (refl, refl)
+any-pair-alike (fixed true) (fixed true) (fixed false) n = (refl, refl)
+any-pair-alike (fixed true) (fixed false) (fixed true) n = (refl, refl)
+any-pair-alike (fixed true) (fixed false) (fixed false) n = (refl, refl)
+any-pair-alike (fixed false) (fixed true) (fixed true) n = (refl, refl)
+any-pair-alike (fixed false) (fixed true) (fixed false) n = (refl, refl)
+any-pair-alike (fixed false) (fixed false) (fixed true) n = (refl, refl)
+any-pair-alike (fixed false) (fixed false) (fixed false) n = (refl, refl)
+any-pair-alike (fixed true) (fixed true) (unfixed p) n = (refl, refl)
+any-pair-alike (fixed true) (fixed false) (unfixed p) n = (refl, refl)
+any-pair-alike (fixed false) (fixed true) (unfixed p) n = (refl, refl)
+any-pair-alike (fixed false) (fixed false) (unfixed p) n = (refl, refl)
+any-pair-alike (fixed true) (unfixed p) (fixed true) n = (refl, refl)
+any-pair-alike (fixed true) (unfixed p) (fixed false) n = (refl, refl)
+any-pair-alike (fixed false) (unfixed p) (fixed true) n = (refl, refl)
+any-pair-alike (fixed false) (unfixed p) (fixed false) n = (refl, refl)
+any-pair-alike (unfixed p) (fixed true) (fixed true) n = (refl, refl)
+any-pair-alike (unfixed p) (fixed true) (fixed false) n = (refl, refl)
+any-pair-alike (unfixed p) (fixed false) (fixed true) n = (refl, refl)
+any-pair-alike (unfixed p) (fixed false) (fixed false) n = (refl, refl)
+any-pair-alike (fixed l) (unfixed p) (unfixed q) n = (refl, refl)
+any-pair-alike (unfixed p) (fixed r) (unfixed q) n = (refl, refl)
+any-pair-alike (unfixed p) (unfixed q) (fixed c) n = (refl, refl)
+any-pair-alike (unfixed p) (unfixed q) (unfixed r) n = (refl, refl)
+
+-- ---- pairs of codes
+
+-- the one fixed input is f
+fixed-first : (b : ℕ) (bs : List Bit) → b < 2 → fixed-sum bs ≡ 0 → fixed-sum (fixed (code-sign b) ∷ bs) ≡ b
+fixed-first zero bs h e = e
+fixed-first (suc zero) bs h e = ap suc e
+fixed-first (suc (suc b)) bs h e = absurd (omega arith)
+
+-- codes of one variable are equal where their signs are
+signs-equal : (a b : ℕ) → a / 2 ≡ b / 2 → Bool·beq (code-sign a) (code-sign b) ≡ eqb a b
+signs-equal a b e =
+    even-or-odd a
+    (λ p. even-or-odd b
+    (λ q. rw (sign-even a p, sign-even b q, eq-eqb a b (omega arith)))
+    (λ q. rw (sign-even a p, sign-odd b q, ne-eqb a b (λ f. q (sym (ap (λ (k : ℕ). k % 2) f) ∙ p)))))
+    (λ p. even-or-odd b
+    (λ q. rw (sign-odd a p, sign-even b q, ne-eqb a b (λ f. p (ap (λ (k : ℕ). k % 2) f ∙ q))))
+    (λ q. rw (sign-odd a p, sign-odd b q, eq-eqb a b (omega (arith, p, q)))))
+
+any-pair-yes : (a b : ℕ) (r : Bit) (k : Pair) → a / 2 ≡ b / 2
+    → any-pair-or (bit-of a) (bit-of b) r k ≡ pair-by true (eqb a b) (bit-of a) r k
+unfolding literal-of
+any-pair-yes a b r k e = go (decLt a 2) (decLt b 2)
+  where
+    go : Dec (a < 2) → Dec (b < 2) → any-pair-or (bit-of a) (bit-of b) r k ≡ pair-by true (eqb a b) (bit-of a) r k
+    go (yes h) (yes i) = rw (bit-fixed a h, bit-fixed b i, signs-equal a b e)
+    go (yes h) (no i) = absurd (omega arith)
+    go (no h) (yes i) = absurd (omega arith)
+    go (no h) (no i) = rw (bit-literal a (omega arith), bit-literal b (omega arith), eq-eqb (a / 2) (b / 2) e, signs-equal a b e)
+
+any-pair-no : (a b : ℕ) (r : Bit) (k : Pair) → (a / 2 ≡ b / 2 → ⊥) → any-pair-or (bit-of a) (bit-of b) r k ≡ k
+unfolding literal-of
+any-pair-no a b r k e = go (decLt a 2) (decLt b 2)
+  where
+    go : Dec (a < 2) → Dec (b < 2) → any-pair-or (bit-of a) (bit-of b) r k ≡ k
+    go (yes h) (yes i) = absurd (e (omega arith))
+    go (yes h) (no i) = rw (bit-fixed a h, bit-literal b (omega arith))
+    go (no h) (yes i) = rw (bit-literal a (omega arith), bit-fixed b i)
+    go (no h) (no i) = rw (bit-literal a (omega arith), bit-literal b (omega arith), ne-eqb (a / 2) (b / 2) e)
 
 -- ---- the inputs
 
-fixed-sum-append : (a b : List Bit) → fixed-sum (a ++ b) ≡ fixed-sum a + fixed-sum b
-fixed-sum-append [] b = omega arith
-fixed-sum-append (fixed true ∷ a) b = omega (arith, fixed-sum-append a b)
-fixed-sum-append (fixed false ∷ a) b = fixed-sum-append a b
-fixed-sum-append (unfixed l ∷ a) b = fixed-sum-append a b
+module _ (l r c : ℕ) where
+  abbrev bits : List Bit
+  bits = bit-of l ∷ bit-of r ∷ bit-of c ∷ []
 
-literals-append : (a b : List Bit) → literals (a ++ b) ≡ literals a ++ literals b
-literals-append [] b = refl
-literals-append (fixed x ∷ a) b = literals-append a b
-literals-append (unfixed l ∷ a) b = ap (λ (k : List Literal). l ∷ k) (literals-append a b)
+  abbrev seen : Inputs → Type 0
+  seen i = Sees i (bit-of l) (bit-of r) (bit-of c)
 
-small-is : (b : ℕ) → b < 2 → (fixed-sum (bit-of b ∷ []) ≡ b) × (literals (bit-of b ∷ []) ≡ [])
-unfolding bit-of
-small-is zero h = (refl, refl)
-small-is (suc zero) h = (refl, refl)
-small-is (suc (suc b)) h = absurd (omega arith)
+  -- inputs that make the column of the first pair of any bits
+  sees : (i : Inputs) (k : Pair) → any-first-pair (bit-of l) (bit-of r) (bit-of c) ≡ k
+      → ((n : ℕ) → inputs-sum i n ≡ sum-of k bits n) → ((n : ℕ) → inputs-carry i n ≡ carry-of k bits n) → FixedFew i → seen i
+  sees i k e s t f =
+      let a = any-pair-alike (bit-of l) (bit-of r) (bit-of c) in
+      record {
+        sum = λ n. s n ∙ sym (ap (λ (j : Pair). sum-of j bits n) e) ∙ a n .0;
+        carry = λ n. t n ∙ sym (ap (λ (j : Pair). carry-of j bits n) e) ∙ a n .1;
+        few = f;
+      }
 
-more-literals : (o : Unfixed) (b : ℕ) → length (unfixed-literals o) ≤ 2 → unfixed-literals (with-unfixed o b) ≡ unfixed-literals o ++ (literal-of b ∷ [])
-more-literals Nil b h = refl
-more-literals (One p) b h = refl
-more-literals (Two p q) b h = refl
-more-literals (Three p q r) b h = absurd (omega arith)
+  pair-seen : (a b o : ℕ) (k : Pair) → any-first-pair (bit-of l) (bit-of r) (bit-of c) ≡ any-pair-or (bit-of a) (bit-of b) (bit-of o) k
+      → a / 2 ≡ b / 2 → seen (pair-of-codes a b o)
+  unfolding pair-of-codes sum-of carry-of
+  pair-seen a b o k e h = go (eqb a b) (e ∙ any-pair-yes a b (bit-of o) k h)
+    where
+      go : (t : Bool) → any-first-pair (bit-of l) (bit-of r) (bit-of c) ≡ pair-by true t (bit-of a) (bit-of o) k
+          → seen (cond t (Equal a o) (Opposite o))
+      go true e = sees (Equal a o) (equal (bit-of a) (bit-of o)) e (λ n. sym (sum-remains (bit-of o) n)) (λ n. refl) tt
+      go false e = sees (Opposite o) (opposite (bit-of o)) e (λ n. sym (sum-flips (bit-of o) n)) (λ n. refl) tt
 
-none-fixed-more : (o : Unfixed) (b : ℕ) → 2 ≤ b → NoneFixed o → NoneFixed (with-unfixed o b)
-none-fixed-more Nil b h l = h
-none-fixed-more (One p) b h l = (l, h)
-none-fixed-more (Two p q) b h l = (l .0, l .1, h)
-none-fixed-more (Three p q r) b h l = l
+  pub first-seen : l / 2 ≡ r / 2 → seen (pair-of-codes l r c)
+  first-seen h = pair-seen l r c _ refl h
 
-with-fixed-input : (i : Inputs) (b : ℕ) → b < 2 → with-input i b ≡ record { ones = i .ones + b; others = i .others }
-unfolding with-input
-with-fixed-input i b h = rw (lt-ltb b 2 h)
+  module _ (lr : l / 2 ≡ r / 2 → ⊥) where
+    pub second-seen : l / 2 ≡ c / 2 → seen (pair-of-codes l c r)
+    second-seen h = pair-seen l c r _ (any-pair-no l r (bit-of c) _ lr) h
 
-with-unfixed-input : (i : Inputs) (b : ℕ) → 2 ≤ b → with-input i b ≡ record { ones = i .ones; others = with-unfixed (i .others) b }
-unfolding with-input
-with-unfixed-input i b h = rw (le-ltb b 2 h)
+    module _ (lc : l / 2 ≡ c / 2 → ⊥) where
+      pub third-seen : r / 2 ≡ c / 2 → seen (pair-of-codes r c l)
+      third-seen h = pair-seen r c l none (any-pair-no l r (bit-of c) _ lr ∙ any-pair-no l c (bit-of r) _ lc) h
 
-pub sees-none : Sees (record { ones = 0; others = Nil }) []
-sees-none = record { ones = refl; others = refl; unfixed = tt; few = omega arith }
+      module _ (rc : r / 2 ≡ c / 2 → ⊥) where
+        no-pair : any-first-pair (bit-of l) (bit-of r) (bit-of c) ≡ none
+        no-pair = any-pair-no l r (bit-of c) _ lr ∙ any-pair-no l c (bit-of r) _ lc ∙ any-pair-no r c (bit-of l) none rc
 
-pub sees-more : (i : Inputs) (bs : List Bit) (b : ℕ) → length bs ≤ 2 → Sees i bs → Sees (with-input i b) (bs ++ (bit-of b ∷ []))
-sees-more i bs b n s = go (decLt b 2)
-  where
-    go : Dec (b < 2) → Sees (with-input i b) (bs ++ (bit-of b ∷ []))
-    go (yes h) =
-        rw (with-fixed-input i b h)
-        (record {
-          ones = omega (arith, s .ones, fixed-sum-append bs (bit-of b ∷ []), small-is b h .0);
-          others = s .others ∙ sym (literals-append bs (bit-of b ∷ []) ∙ (ap (λ (l : List Literal). literals bs ++ l) (small-is b h .1) ∙ append-nil (literals bs)));
-          unfixed = s .unfixed;
-          few = omega (arith, s .few, length-append bs (bit-of b ∷ []));
-        })
-    go (no h) =
-        let q : 2 ≤ b = omega arith in
-        let e : _≡_ {A = List Bit} (bit-of b ∷ []) (unfixed (literal-of b) ∷ []) = ap (λ (x : Bit). x ∷ []) (bit-literal b q) in
-        let g = more-literals (i .others) b (omega (arith, s .few)) in
-        rw (with-unfixed-input i b q)
-        (record {
-          ones = omega (arith, s .ones, fixed-sum-append bs (bit-of b ∷ []), ap fixed-sum e);
-          others = g ∙ (ap (λ (l : List Literal). l ++ (literal-of b ∷ [])) (s .others) ∙ sym (literals-append bs (bit-of b ∷ []) ∙ ap (λ (l : List Bit). literals bs ++ literals l) e));
-          unfixed = none-fixed-more (i .others) b q (s .unfixed);
-          few = omega (arith, s .few, length-append bs (bit-of b ∷ []), ap (λ (l : List Literal). length l) g, length-append (unfixed-literals (i .others)) (literal-of b ∷ []));
-        })
+        by-counts : (i : Inputs) (f : ℕ) (ps : List Literal) → fixed-sum bits ≡ f → literals bits ≡ ps
+            → ((n : ℕ) → inputs-sum i n ≡ sum f ps n) → ((n : ℕ) → inputs-carry i n ≡ carry f ps n) → FixedFew i → seen i
+        unfolding sum-of carry-of
+        by-counts i f ps e g s t few =
+            sees i none no-pair (λ n. s n ∙ sym (ap₂ (λ (k : ℕ) (qs : List Literal). sum k qs n) e g))
+            (λ n. t n ∙ sym (ap₂ (λ (k : ℕ) (qs : List Literal). carry k qs n) e g)) few
 
--- one input adds at most 1 to the sum of the fixed
-pub ones-few : (i : Inputs) (b : ℕ) → with-input i b .ones ≤ i .ones + 1
-ones-few i b = go (decLt b 2)
-  where
-    go : Dec (b < 2) → with-input i b .ones ≤ i .ones + 1
-    go (yes h) = omega (arith, ap (λ (j : Inputs). j .ones) (with-fixed-input i b h))
-    go (no h) = omega (arith, ap (λ (j : Inputs). j .ones) (with-unfixed-input i b (omega arith)))
+        pub left-fixed : l < 2 → seen (Two l r c)
+        left-fixed h =
+            let p : 2 ≤ r = omega (arith, lr) in
+            let q : 2 ≤ c = omega (arith, lc) in
+            by-counts (Two l r c) l (literal-of r ∷ literal-of c ∷ [])
+            (rw (bit-fixed l h, bit-literal r p, bit-literal c q) (fixed-first l (unfixed (literal-of r) ∷ unfixed (literal-of c) ∷ []) h refl))
+            (rw (bit-fixed l h, bit-literal r p, bit-literal c q)) (λ n. refl) (λ n. refl) (omega arith)
+
+        pub right-fixed : r < 2 → seen (Two r l c)
+        right-fixed h =
+            let p : 2 ≤ l = omega (arith, lr) in
+            let q : 2 ≤ c = omega (arith, rc) in
+            by-counts (Two r l c) r (literal-of l ∷ literal-of c ∷ [])
+            (rw (bit-literal l p, bit-fixed r h, bit-literal c q) (fixed-first r (unfixed (literal-of c) ∷ []) h refl))
+            (rw (bit-literal l p, bit-fixed r h, bit-literal c q)) (λ n. refl) (λ n. refl) (omega arith)
+
+        pub carry-fixed : c < 2 → seen (Two c l r)
+        carry-fixed h =
+            let p : 2 ≤ l = omega (arith, lc) in
+            let q : 2 ≤ r = omega (arith, rc) in
+            by-counts (Two c l r) c (literal-of l ∷ literal-of r ∷ [])
+            (rw (bit-literal l p, bit-literal r q, bit-fixed c h) (fixed-first c [] h refl))
+            (rw (bit-literal l p, bit-literal r q, bit-fixed c h)) (λ n. refl) (λ n. refl) (omega arith)
+
+        pub none-fixed : 2 ≤ l → 2 ≤ r → 2 ≤ c → seen (Three l r c)
+        none-fixed p q o =
+            by-counts (Three l r c) 0 (literal-of l ∷ literal-of r ∷ literal-of c ∷ [])
+            (rw (bit-literal l p, bit-literal r q, bit-literal c o)) (rw (bit-literal l p, bit-literal r q, bit-literal c o))
+            (λ n. refl) (λ n. refl) tt
 
 -- ---- the sum
 
@@ -104,13 +190,11 @@ ones-few i b = go (decLt b 2)
 parity-flipped : (ps : List Literal) (f z : ℕ) → parity ps (literal-of (flipped-code (2 * z) f) .negated) (literal-of (flipped-code (2 * z) f) .variable) ≡ parity ps (odd f) z
 parity-flipped ps f z = ap (λ (l : Literal). parity ps (l .negated) (l .variable)) (new-flipped z f) ∙ ap (λ (o : Bool). parity ps o z) (flips-false (odd f))
 
-pub sum-of-none : (f z : ℕ) → MatchesBit z (record { bit = f % 2; gate = Empty; next = z }) (sum f [] z)
-unfolding sum
-sum-of-none f z = record { bit = bit-mod f; clauses = refl; next = refl; grows = omega arith }
+pub plain-is : (b z : ℕ) (k : Bit) → bit-of b ≡ k → MatchesBit z (record { bit = b; gate = Empty; next = z }) (plain k z)
+plain-is b z k e = record { bit = e; clauses = refl; next = refl; grows = omega arith }
 
-pub sum-of-one : (p f z : ℕ) → 2 ≤ p → MatchesBit z (record { bit = flipped-code p f; gate = Empty; next = z }) (sum f (literal-of p ∷ []) z)
-unfolding sum
-sum-of-one p f z h = record { bit = bit-flipped p f h; clauses = refl; next = refl; grows = omega arith }
+pub bit-flipped-by-1 : (b : ℕ) → bit-of (flipped-code b 1) ≡ flip (bit-of b)
+bit-flipped-by-1 b = ap (λ (x : ℕ). bit-of x) (flipped-odd b 1 refl) ∙ bit-negated b
 
 pub sum-of-two : (p q f z : ℕ) → 0 < z
     → MatchesBit z (record { bit = 2 * z; gate = ParityOfTwo p q (flipped-code (2 * z) f); next = z + 1 }) (sum f (literal-of p ∷ literal-of q ∷ []) z)
@@ -118,46 +202,19 @@ unfolding sum
 sum-of-two p q f z h =
     record { bit = bit-new z h; clauses = parity-flipped (literal-of p ∷ literal-of q ∷ []) f z; next = add-one z; grows = omega arith }
 
-pub sum-of-three : (p q r f z : ℕ) → 0 < z
-    → MatchesBit z (record { bit = 2 * z; gate = ParityOfThree p q r (flipped-code (2 * z) f); next = z + 1 }) (sum f (literal-of p ∷ literal-of q ∷ literal-of r ∷ []) z)
+pub sum-of-three : (p q r z : ℕ) → 0 < z
+    → MatchesBit z (record { bit = 2 * z; gate = ParityOfThree p q r (2 * z); next = z + 1 })
+    (sum 0 (literal-of p ∷ literal-of q ∷ literal-of r ∷ []) z)
 unfolding sum
-sum-of-three p q r f z h =
-    record { bit = bit-new z h; clauses = parity-flipped (literal-of p ∷ literal-of q ∷ literal-of r ∷ []) f z; next = add-one z; grows = omega arith }
+sum-of-three p q r z h =
+    record {
+      bit = bit-new z h;
+      clauses = ap (λ (l : Literal). parity (literal-of p ∷ literal-of q ∷ literal-of r ∷ []) (l .negated) (l .variable)) (literal-new z);
+      next = add-one z;
+      grows = omega arith;
+    }
 
 -- ---- the carry
-
-pub carry-of-none : (b f t : ℕ) → bit-of b ≡ carry f [] 0 .bit → MatchesBit t (record { bit = b; gate = Empty; next = t }) (carry f [] t)
-unfolding carry
-carry-of-none b f t e = record { bit = e; clauses = refl; next = refl; grows = omega arith }
-
-pub carry-of-one : (b p f t : ℕ) → bit-of b ≡ carry f (literal-of p ∷ []) 0 .bit → MatchesBit t (record { bit = b; gate = Empty; next = t }) (carry f (literal-of p ∷ []) t)
-unfolding carry
-carry-of-one b p zero t e = record { bit = e; clauses = refl; next = refl; grows = omega arith }
-carry-of-one b p (suc zero) t e = record { bit = e; clauses = refl; next = refl; grows = omega arith }
-carry-of-one b p (suc (suc f)) t e = record { bit = e; clauses = refl; next = refl; grows = omega arith }
-
--- the carry bits that need no variable
-pub carry-from-two : (f : ℕ) (ps : List Literal) → 2 ≤ f → length ps ≤ 1 → carry f ps 0 .bit ≡ fixed true
-unfolding carry
-carry-from-two zero ps h k = absurd (omega arith)
-carry-from-two (suc zero) ps h k = absurd (omega arith)
-carry-from-two (suc (suc f)) [] h k = refl
-carry-from-two (suc (suc f)) (p ∷ []) h k = refl
-carry-from-two (suc (suc f)) (p ∷ q ∷ ps) h k = absurd (omega arith)
-
-pub carry-below-two : (f : ℕ) → f < 2 → carry f [] 0 .bit ≡ fixed false
-unfolding carry
-carry-below-two zero h = refl
-carry-below-two (suc zero) h = refl
-carry-below-two (suc (suc f)) h = absurd (omega arith)
-
-pub carry-at-zero : (p : Literal) → carry 0 (p ∷ []) 0 .bit ≡ fixed false
-unfolding carry
-carry-at-zero p = refl
-
-pub carry-at-one : (p : Literal) → carry 1 (p ∷ []) 0 .bit ≡ unfixed p
-unfolding carry
-carry-at-one p = refl
 
 negation-twice : (l : Literal) → negation (negation l) ≡ l
 negation-twice l = ap (λ (s : Bool). record { variable = l .variable; negated = s }) (not-twice (l .negated))
@@ -180,90 +237,81 @@ carry-of-two p q (suc zero) t h k =
     }
 carry-of-two p q (suc (suc f)) t h k = absurd (omega arith)
 
-pub carry-of-three : (p q r f t : ℕ) → f ≡ 0 → 0 < t
-    → MatchesBit t (record { bit = 2 * t; gate = Most p q r (2 * t); next = t + 1 }) (carry f (literal-of p ∷ literal-of q ∷ literal-of r ∷ []) t)
+pub carry-of-three : (p q r t : ℕ) → 0 < t
+    → MatchesBit t (record { bit = 2 * t; gate = Most p q r (2 * t); next = t + 1 })
+    (carry 0 (literal-of p ∷ literal-of q ∷ literal-of r ∷ []) t)
 unfolding carry
-carry-of-three p q r zero t h k =
+carry-of-three p q r t k =
     record { bit = bit-new t k; clauses = ap (λ (l : Literal). most (literal-of p) (literal-of q) (literal-of r) l) (literal-new t); next = add-one t; grows = omega arith }
-carry-of-three p q r (suc f) t h k = absurd (omega arith)
 
 -- ---- a bit of two or three unfixed inputs is a new variable: where the next free one is at most k, it is below k
 
-pub sum-opens-two : {o : Unfixed} {p q : ℕ} (f z k : ℕ) → o ≡ Two p q → sum f (unfixed-literals o) z .next ≤ k → z < k
+pub sum-opens-two : {i : Inputs} {f p q : ℕ} (z k : ℕ) → i ≡ Two f p q → inputs-sum i z .next ≤ k → z < k
 unfolding sum
-sum-opens-two {o} {p} {q} f z k e h = rw e at h
+sum-opens-two z k e h = rw e at h
 
-pub sum-opens-three : {o : Unfixed} {p q r : ℕ} (f z k : ℕ) → o ≡ Three p q r → sum f (unfixed-literals o) z .next ≤ k → z < k
+pub sum-opens-three : {i : Inputs} {p q r : ℕ} (z k : ℕ) → i ≡ Three p q r → inputs-sum i z .next ≤ k → z < k
 unfolding sum
-sum-opens-three {o} {p} {q} {r} f z k e h = rw e at h
+sum-opens-three z k e h = rw e at h
 
-carry-opens : (f t : ℕ) (p q : Literal) (ps : List Literal) → carry f (p ∷ q ∷ ps) t .next ≡ suc t
+carry-opens : (f t : ℕ) (p q : Literal) → carry f (p ∷ q ∷ []) t .next ≡ suc t
 unfolding carry
-carry-opens zero t p q [] = refl
-carry-opens (suc f) t p q [] = refl
-carry-opens zero t p q (r ∷ ps) = refl
-carry-opens (suc f) t p q (r ∷ ps) = refl
+carry-opens zero t p q = refl
+carry-opens (suc f) t p q = refl
 
-pub carry-opens-two : {o : Unfixed} {p q : ℕ} (f t k : ℕ) → o ≡ Two p q → carry f (unfixed-literals o) t .next ≤ k → t < k
-carry-opens-two {o} {p} {q} f t k e h =
-    omega (arith, h, ap (λ (u : Unfixed). carry f (unfixed-literals u) t .next) e, carry-opens f t (literal-of p) (literal-of q) [])
+pub carry-opens-two : {i : Inputs} {f p q : ℕ} (t k : ℕ) → i ≡ Two f p q → inputs-carry i t .next ≤ k → t < k
+carry-opens-two {f = f} {p} {q} t k e h =
+    omega (arith, h, ap (λ (j : Inputs). inputs-carry j t .next) e, carry-opens f t (literal-of p) (literal-of q))
 
-pub carry-opens-three : {o : Unfixed} {p q r : ℕ} (f t k : ℕ) → o ≡ Three p q r → carry f (unfixed-literals o) t .next ≤ k → t < k
-carry-opens-three {o} {p} {q} {r} f t k e h =
-    omega (arith, h, ap (λ (u : Unfixed). carry f (unfixed-literals u) t .next) e, carry-opens f t (literal-of p) (literal-of q) (literal-of r ∷ []))
+pub carry-opens-three : {i : Inputs} {p q r : ℕ} (t k : ℕ) → i ≡ Three p q r → inputs-carry i t .next ≤ k → t < k
+unfolding carry
+carry-opens-three t k e h = rw e at h
 
 -- ---- the column
 
--- the column, by the sum of its fixed inputs and the others
-column-from : ℕ → List Literal → ℕ → Bool → Column
-column-from f ps n last =
-    let s : Made = sum f ps n in
-    let t : Made = carry-unless last f ps (s .next) in
-    record { sum-bit = s .bit; carry-bit = t .bit; clauses = s .clauses ++ t .clauses; next = t .next }
-
 -- where the column's next free variable is at most k, so is the sum's, and the carry's
-module _ (l r c z k : ℕ) (i : Inputs) (v : Sees i (bit-of l ∷ bit-of r ∷ bit-of c ∷ [])) where
-  from-column : (last : Bool) → column (bit-of l) (bit-of r) (bit-of c) last z .next ≤ k → column-from (i .ones) (unfixed-literals (i .others)) z last .next ≤ k
-  unfolding column column-from
-  from-column last h =
-      subst (λ (f : ℕ). column-from f (unfixed-literals (i .others)) z last .next ≤ k) (sym (v .ones))
-      (subst (λ (ps : List Literal). column-from (fixed-sum (bit-of l ∷ bit-of r ∷ bit-of c ∷ [])) ps z last .next ≤ k) (sym (v .others)) h)
+module _ (l r c z k : ℕ) (i : Inputs) (v : Sees i (bit-of l) (bit-of r) (bit-of c)) where
+  abbrev pair : Pair
+  pair = first-pair (bit-of l) (bit-of r) (bit-of c)
 
-  pub sum-fits : (last : Bool) → column (bit-of l) (bit-of r) (bit-of c) last z .next ≤ k → sum (i .ones) (unfixed-literals (i .others)) z .next ≤ k
-  unfolding column-from
+  pub sum-fits : (last : Bool) → column (bit-of l) (bit-of r) (bit-of c) last z .next ≤ k → inputs-sum i z .next ≤ k
+  unfolding column
   sum-fits last h =
-      let ps = unfixed-literals (i .others) in
-      omega (arith, from-column last h, carry-grows last (i .ones) (sum (i .ones) ps z .next) ps .0)
+      omega (arith, h, ap (λ (m : Made). m .next) (v .sum z), carry-of-grows last pair (bits l r c) (sum-of pair (bits l r c) z .next) .0)
 
-  pub carry-fits : column (bit-of l) (bit-of r) (bit-of c) false z .next ≤ k → (n : ℕ) → n ≡ sum (i .ones) (unfixed-literals (i .others)) z .next
-      → carry (i .ones) (unfixed-literals (i .others)) n .next ≤ k
-  unfolding column-from carry-unless
-  carry-fits h n e = subst (λ (m : ℕ). carry (i .ones) (unfixed-literals (i .others)) m .next ≤ k) (sym e) (from-column false h)
+  pub carry-fits : column (bit-of l) (bit-of r) (bit-of c) false z .next ≤ k → (n : ℕ) → n ≡ inputs-sum i z .next
+      → inputs-carry i n .next ≤ k
+  unfolding column carry-unless
+  carry-fits h n e =
+      let f : n ≡ sum-of pair (bits l r c) z .next = e ∙ ap (λ (m : Made). m .next) (v .sum z) in
+      omega (arith, h, ap (λ (m : Made). m .next) (v .carry n), ap (λ (j : ℕ). carry-of pair (bits l r c) j .next) f)
 
-module _ (l r c z : ℕ) (i : Inputs) (s : MadeBit) (v : Sees i (bit-of l ∷ bit-of r ∷ bit-of c ∷ [])) (m : MatchesBit z s (sum (i .ones) (unfixed-literals (i .others)) z)) where
-  seen : (k : MadeColumn) (last : Bool) → MatchesColumn z k (column-from (i .ones) (unfixed-literals (i .others)) z last)
-      → MatchesColumn z k (column (bit-of l) (bit-of r) (bit-of c) last z)
-  unfolding column column-from
-  seen k last h =
-      subst (λ (f : ℕ). MatchesColumn z k (column-from f (literals (bit-of l ∷ bit-of r ∷ bit-of c ∷ [])) z last)) (v .ones)
-      (subst (λ (ps : List Literal). MatchesColumn z k (column-from (i .ones) ps z last)) (v .others) h)
+module _ (l r c z : ℕ) (i : Inputs) (s : MadeBit) (v : Sees i (bit-of l) (bit-of r) (bit-of c)) (m : MatchesBit z s (inputs-sum i z)) where
+  sum-is : MatchesBit z s (sum-of (first-pair (bit-of l) (bit-of r) (bit-of c)) (bit-of l ∷ bit-of r ∷ bit-of c ∷ []) z)
+  sum-is = subst (λ (k : Made). MatchesBit z s k) (v .sum z) m
 
   pub last-column-is : MatchesColumn z (record { sum = s .bit; carry = 0; next = s .next; parity = s .gate; majority = Empty }) (column (bit-of l) (bit-of r) (bit-of c) true z)
-  unfolding column-from carry-unless column-clauses
+  unfolding column carry-unless column-clauses
   last-column-is =
-      seen _ true
-      (record { sum = m .bit; carry = bit-zero; clauses = ap (λ (x : List Clause). x ++ []) (m .clauses); next = m .next; grows = m .grows })
+      record {
+        sum = sum-is .bit;
+        carry = bit-zero;
+        clauses = ap (λ (x : List Clause). x ++ []) (sum-is .clauses);
+        next = sum-is .next;
+        grows = m .grows;
+      }
 
-  pub column-is : (t : MadeBit) → MatchesBit (s .next) t (carry (i .ones) (unfixed-literals (i .others)) (s .next))
+  pub column-is : (t : MadeBit) → MatchesBit (s .next) t (inputs-carry i (s .next))
       → MatchesColumn z (record { sum = s .bit; carry = t .bit; next = t .next; parity = s .gate; majority = t .gate }) (column (bit-of l) (bit-of r) (bit-of c) false z)
-  unfolding column-from carry-unless column-clauses
+  unfolding column carry-unless column-clauses
   column-is t m₂ =
-      let u = subst (λ (n : ℕ). MatchesBit (s .next) t (carry (i .ones) (unfixed-literals (i .others)) n)) (m .next) m₂ in
-      seen _ false
-      (record {
-        sum = m .bit;
+      let k = first-pair (bit-of l) (bit-of r) (bit-of c) in
+      let u = subst (λ (n : ℕ). MatchesBit (s .next) t (carry-of k (bit-of l ∷ bit-of r ∷ bit-of c ∷ []) n)) (sum-is .next)
+      (subst (λ (j : Made). MatchesBit (s .next) t j) (v .carry (s .next)) m₂) in
+      record {
+        sum = sum-is .bit;
         carry = u .bit;
-        clauses = ap₂ (λ (x y : List Clause). x ++ y) (m .clauses) (u .clauses);
+        clauses = ap₂ (λ (x y : List Clause). x ++ y) (sum-is .clauses) (u .clauses);
         next = u .next;
         grows = omega (arith, m .grows, u .grows);
-      })
+      }

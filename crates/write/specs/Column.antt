@@ -1,53 +1,49 @@
 -- A column as the code makes it: its inputs, its bits as codes, and the gates of its sum and its carry.
-use Prim.Native.Nat.{ℕ, _+_, _≤_}
+use Prim.Native.Nat.{ℕ, _≤_}
 use mathlib.Core.Path.{_≡_}
 use mathlib.Core.Bool.{cond}
 use mathlib.Core.List.{List, [], _∷_}
-use lib.Dec.{ltb}
-use lib.ListN.{length}
-use Rattle.cnf.specs.Clause.{Literal, Clause}
-use Rattle.product.specs.Bit.{Bit}
-use Rattle.product.specs.Column.{fixed-sum, literals, Made, Column}
+use lib.Dec.{eqb}
+use Rattle.cnf.specs.Clause.{Clause}
+use Rattle.product.specs.Bit.{Bit, flip}
+use Rattle.product.specs.Column.{first-pair, Made, plain, sum, carry, sum-of, carry-of, Column}
 use Rattle.gates.specs.Code.{literal-of, bit-of}
 use Rattle.gates.specs.Gate.{gate-clauses, column-clauses}
-use Rattle.write.specs.declared.column.Unfixed.{Unfixed}
-use Rattle.write.specs.declared.column.Unfixed.the-variants.{Nil, One, Two, Three}
 use Rattle.write.specs.declared.column.Inputs.{Inputs}
+use Rattle.write.specs.declared.column.Inputs.the-variants.{Equal, Opposite, Two, Three}
 use Rattle.write.specs.declared.column.MadeBit.{MadeBit}
 use Rattle.write.specs.declared.column.MadeColumn.{MadeColumn}
 
 -- ---- the inputs
 
-abbrev pub unfixed-literals : Unfixed → List Literal
-unfixed-literals Nil = []
-unfixed-literals (One p) = literal-of p ∷ []
-unfixed-literals (Two p q) = literal-of p ∷ literal-of q ∷ []
-unfixed-literals (Three p q r) = literal-of p ∷ literal-of q ∷ literal-of r ∷ []
+-- a and b are codes of one variable, and the third remains
+unfoldable pub pair-of-codes : ℕ → ℕ → ℕ → Inputs
+pair-of-codes a b rest = cond (eqb a b) (Equal a rest) (Opposite rest)
 
--- none of the codes is that of a fixed bit
-abbrev pub NoneFixed : Unfixed → Type 0
-NoneFixed Nil = Unit {0}
-NoneFixed (One p) = 2 ≤ p
-NoneFixed (Two p q) = (2 ≤ p) × (2 ≤ q)
-NoneFixed (Three p q r) = (2 ≤ p) × (2 ≤ q) × (2 ≤ r)
+-- the sum and the carry of such inputs, each made at a next free variable
+abbrev pub inputs-sum : Inputs → ℕ → Made
+inputs-sum (Equal p rest) n = plain (bit-of rest) n
+inputs-sum (Opposite rest) n = plain (flip (bit-of rest)) n
+inputs-sum (Two f p q) n = sum f (literal-of p ∷ literal-of q ∷ []) n
+inputs-sum (Three p q r) n = sum 0 (literal-of p ∷ literal-of q ∷ literal-of r ∷ []) n
 
--- one unfixed input more, after those there are
-abbrev pub with-unfixed : Unfixed → ℕ → Unfixed
-with-unfixed Nil b = One b
-with-unfixed (One p) b = Two p b
-with-unfixed (Two p q) b = Three p q b
-with-unfixed (Three p q r) b = Three p q r
+abbrev pub inputs-carry : Inputs → ℕ → Made
+inputs-carry (Equal p rest) n = plain (bit-of p) n
+inputs-carry (Opposite rest) n = plain (bit-of rest) n
+inputs-carry (Two f p q) n = carry f (literal-of p ∷ literal-of q ∷ []) n
+inputs-carry (Three p q r) n = carry 0 (literal-of p ∷ literal-of q ∷ literal-of r ∷ []) n
 
--- one input more: a fixed one adds to the sum of the fixed
-unfoldable pub with-input : Inputs → ℕ → Inputs
-with-input i b = cond (ltb b 2) (record { ones = i .ones + b; others = i .others }) (record { ones = i .ones; others = with-unfixed (i .others) b })
+abbrev pub FixedFew : Inputs → Type 0
+FixedFew (Equal p rest) = Unit {0}
+FixedFew (Opposite rest) = Unit {0}
+FixedFew (Two f p q) = f ≤ 1
+FixedFew (Three p q r) = Unit {0}
 
--- inputs are those of some bits, in their order
-pub record Sees (i : Inputs) (bs : List Bit) : Type 0 where
-  pub ones : i .ones ≡ fixed-sum bs
-  pub others : unfixed-literals (i .others) ≡ literals bs
-  pub unfixed : NoneFixed (i .others)
-  pub few : i .ones + length (unfixed-literals (i .others)) ≤ length bs
+-- inputs make the sum and the carry that document 01 and request b make of three bits
+pub record Sees (i : Inputs) (left right over : Bit) : Type 0 where
+  pub sum : (n : ℕ) → inputs-sum i n ≡ sum-of (first-pair left right over) (left ∷ right ∷ over ∷ []) n
+  pub carry : (n : ℕ) → inputs-carry i n ≡ carry-of (first-pair left right over) (left ∷ right ∷ over ∷ []) n
+  pub few : FixedFew i
 
 -- ---- what was made is what document 01 makes, from variable n on
 

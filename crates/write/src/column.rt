@@ -1,70 +1,57 @@
 // A column of codes: the only place that opens a variable or makes a clause.
 
 ghost use mathlib.Core.Path.{_≡_};
-ghost use mathlib.Core.List.{[], _∷_};
-ghost use Prim.Native.Nat.{_+_, _≤_, _<_};
-ghost use lib.ListN.{length};
-ghost use Rattle.product.specs.Column.{sum, carry, column};
-ghost use Rattle.gates.specs.Code.{literal-of, bit-of};
-ghost use Rattle.write.specs.Column.{unfixed-literals, NoneFixed, with-unfixed, with-input, Sees, MatchesBit, MatchesColumn};
+ghost use Prim.Native.Nat.{_+_, _/_, _≤_, _<_};
+ghost use Rattle.product.specs.Column.{column};
+ghost use Rattle.gates.specs.Code.{bit-of};
+ghost use Rattle.write.specs.Column.{pair-of-codes, inputs-sum, inputs-carry, FixedFew, Sees, MatchesBit, MatchesColumn};
 use gates::Gate;
 use gates::flipped;
 
 // ---- a column's inputs
 
-// The unfixed inputs, in their order.
-pub enum Unfixed {
-    Nil,
-    One(u32),
-    Two(u32, u32),
+// A pair and the input that remains, or the fixed input and the others in their order, or three unfixed inputs.
+pub enum Inputs {
+    Equal(u32, u32),
+    Opposite(u32),
+    Two(u32, u32, u32),
     Three(u32, u32, u32),
 }
 
-// The sum of the fixed inputs, and the others.
-pub struct Inputs {
-    pub ones: u32,
-    pub others: Unfixed,
-}
-
-fn with_unfixed(o: Unfixed, b: u32) -> Unfixed
-    ensures { λ r. ⌜ r ≡ with-unfixed o b ⌝ }
+// a and b are codes of one variable.
+fn pair(a: u32, b: u32, rest: u32) -> Inputs
+    ensures { λ r. ⌜ r ≡ pair-of-codes a b rest ⌝ }
 {
-    match o {
-        Unfixed::Nil => Unfixed::One(b),
-        Unfixed::One(p) => Unfixed::Two(p, b),
-        Unfixed::Two(p, q) => Unfixed::Three(p, q, b),
-        Unfixed::Three(p, q, r) => Unfixed::Three(p, q, r),
-    }
-}
-
-fn with_input(i: Inputs, b: u32) -> Inputs
-    requires { ⌜ i .ones ≤ 2 ⌝ }
-    ensures { λ r. ⌜ r ≡ with-input i b ⌝ }
-{
-    let others = i.others;
-    if b < 2 {
-        Inputs {
-            ones: i.ones + b,
-            others,
-        }
+    if a == b {
+        Inputs::Equal(a, rest)
     } else {
-        Inputs {
-            ones: i.ones,
-            others: with_unfixed(others, b),
-        }
+        Inputs::Opposite(rest)
     }
 }
 
+// A fixed bit counts as a literal of variable 0: two of them are a pair as any other, and then what remains decides.
 fn inputs_of(left: u32, right: u32, carry: u32) -> Inputs
-    ensures { λ i. ⌜ Sees i (bit-of left ∷ bit-of right ∷ bit-of carry ∷ []) ⌝ }
+    ensures { λ i. ⌜ Sees i (bit-of left) (bit-of right) (bit-of carry) ⌝ }
 {
-    let none = Inputs {
-        ones: 0,
-        others: Unfixed::Nil,
-    };
-    let one = with_input(none, left);
-    let two = with_input(one, right);
-    with_input(two, carry)
+    if left / 2 == right / 2 {
+        return pair(left, right, carry);
+    }
+    if left / 2 == carry / 2 {
+        return pair(left, carry, right);
+    }
+    if right / 2 == carry / 2 {
+        return pair(right, carry, left);
+    }
+    if left < 2 {
+        return Inputs::Two(left, right, carry);
+    }
+    if right < 2 {
+        return Inputs::Two(right, left, carry);
+    }
+    if carry < 2 {
+        return Inputs::Two(carry, left, right);
+    }
+    Inputs::Three(left, right, carry)
 }
 
 // ---- a column
@@ -84,73 +71,57 @@ pub struct MadeColumn {
     pub majority: Gate,
 }
 
-// f is the sum of the fixed inputs, z the next free variable.
-fn sum_bit(o: Unfixed, f: u32, z: u32) -> MadeBit
-    requires { ⌜ NoneFixed o × (0 < z) × (sum f (unfixed-literals o) z .next ≤ 2147483648) ⌝ }
-    ensures { λ r. ⌜ MatchesBit z r (sum f (unfixed-literals o) z) ⌝ }
+// z is the next free variable.
+fn sum_bit(i: Inputs, z: u32) -> MadeBit
+    requires { ⌜ (0 < z) × (inputs-sum i z .next ≤ 2147483648) ⌝ }
+    ensures { λ r. ⌜ MatchesBit z r (inputs-sum i z) ⌝ }
 {
-    match o {
-        Unfixed::Nil => MadeBit {
-            bit: f % 2,
+    match i {
+        Inputs::Equal(_, rest) => MadeBit {
+            bit: rest,
             gate: Gate::Empty,
             next: z,
         },
-        Unfixed::One(p) => MadeBit {
-            bit: flipped(p, f),
+        Inputs::Opposite(rest) => MadeBit {
+            bit: flipped(rest, 1),
             gate: Gate::Empty,
             next: z,
         },
-        Unfixed::Two(p, q) => MadeBit {
+        Inputs::Two(f, p, q) => MadeBit {
             bit: 2 * z,
             gate: Gate::ParityOfTwo(p, q, flipped(2 * z, f)),
             next: z + 1,
         },
-        Unfixed::Three(p, q, r) => MadeBit {
+        Inputs::Three(p, q, r) => MadeBit {
             bit: 2 * z,
-            gate: Gate::ParityOfThree(p, q, r, flipped(2 * z, f)),
+            gate: Gate::ParityOfThree(p, q, r, 2 * z),
             next: z + 1,
         },
     }
 }
 
-fn carry_of_none(f: u32) -> u32
-    ensures { λ r. ⌜ bit-of r ≡ carry f [] 0 .bit ⌝ }
+// t is the next free variable. One of p and q is both of their negations, negated.
+fn carry_bit(i: Inputs, t: u32) -> MadeBit
+    requires { ⌜ FixedFew i × (0 < t) × (inputs-carry i t .next ≤ 2147483648) ⌝ }
+    ensures { λ r. ⌜ MatchesBit t r (inputs-carry i t) ⌝ }
 {
-    if 2 <= f { 1 } else { 0 }
-}
-
-fn carry_of_one(p: u32, f: u32) -> u32
-    requires { ⌜ 2 ≤ p ⌝ }
-    ensures { λ r. ⌜ bit-of r ≡ carry f (literal-of p ∷ []) 0 .bit ⌝ }
-{
-    if f == 0 {
-        return 0;
-    }
-    if f == 1 { p } else { 1 }
-}
-
-// One of p and q is both of their negations, negated.
-fn carry_bit(o: Unfixed, f: u32, t: u32) -> MadeBit
-    requires { ⌜ NoneFixed o × (f + length (unfixed-literals o) ≤ 3) × (0 < t) × (carry f (unfixed-literals o) t .next ≤ 2147483648) ⌝ }
-    ensures { λ r. ⌜ MatchesBit t r (carry f (unfixed-literals o) t) ⌝ }
-{
-    match o {
-        Unfixed::Nil => MadeBit {
-            bit: carry_of_none(f),
+    match i {
+        Inputs::Equal(p, _) => MadeBit {
+            bit: p,
             gate: Gate::Empty,
             next: t,
         },
-        Unfixed::One(p) => MadeBit {
-            bit: carry_of_one(p, f),
+        Inputs::Opposite(rest) => MadeBit {
+            bit: rest,
             gate: Gate::Empty,
             next: t,
         },
-        Unfixed::Two(p, q) => MadeBit {
+        Inputs::Two(f, p, q) => MadeBit {
             bit: 2 * t,
             gate: Gate::Both(flipped(p, f), flipped(q, f), flipped(2 * t, f)),
             next: t + 1,
         },
-        Unfixed::Three(p, q, r) => MadeBit {
+        Inputs::Three(p, q, r) => MadeBit {
             bit: 2 * t,
             gate: Gate::Most(p, q, r, 2 * t),
             next: t + 1,
@@ -164,8 +135,7 @@ pub(crate) fn column(left: u32, right: u32, carry: u32, last: bool, next: u32) -
     ensures { λ r. ⌜ MatchesColumn next r (column (bit-of left) (bit-of right) (bit-of carry) last next) ⌝ }
 {
     let i = inputs_of(left, right, carry);
-    let others = i.others;
-    let s = sum_bit(others, i.ones, next);
+    let s = sum_bit(i, next);
     let parity = s.gate;
     if last {
         return MadeColumn {
@@ -176,7 +146,7 @@ pub(crate) fn column(left: u32, right: u32, carry: u32, last: bool, next: u32) -
             majority: Gate::Empty,
         };
     }
-    let t = carry_bit(others, i.ones, s.next);
+    let t = carry_bit(i, s.next);
     let majority = t.gate;
     MadeColumn {
         sum: s.bit,

@@ -1,6 +1,8 @@
 //! Shared by the tests: lines by hand, rooms, readings of the clause room.
 #![allow(dead_code)] // each test file uses its own part of this
 
+pub mod listed;
+
 use second::Counts;
 
 /// More words than any recipe needs.
@@ -184,6 +186,32 @@ pub fn assert_counted_off_the_room(written: &Written) {
     assert!(named[*w as usize + 1..].iter().all(|seen| *seen), "a new variable is in no clause");
 }
 
+/// No clause holds a literal twice, or a variable and its negation.
+pub fn assert_no_variable_twice(room: &[i32]) {
+    for clause in clauses(room) {
+        let twice = clause.iter().enumerate().any(|(i, a)| clause[..i].iter().any(|b| a.abs() == b.abs()));
+        assert!(!twice, "{clause:?} names a variable twice");
+    }
+}
+
+/// Recipes of small coefficients whose columns, at the width beside each, have a pair of every kind that there is.
+pub fn recipes_with_pairs_of_every_kind() -> Vec<(u64, u64, Vec<u8>)> {
+    let recipes: [(u64, &[Fields]); 11] = [
+        (1, &[(SPLUS, 0, 1, 0, 3), (SMINUS, 1, 1, 0, 5)]),
+        (1, &[(SPLUS, 0, 1, 0, 3), (SPLUS, 1, 1, 1, 9)]),
+        (1, &[(SPLUS, 0, 1, 0, 3), (SMINUS, 0, 3, 1, 5)]),
+        (1, &[(SMINUS, 0, 3, 0, 7), (SPLUS, 1, 1, 1, 21)]),
+        (1, &[(SMINUS, 0, 3, 0, 7), (MINUSS, 1, 1, 0, 5)]),
+        (1, &[(SMINUS, 0, 3, 0, 7), (SMINUS, 1, 1, 1, 7)]),
+        (2, &[(SPLUS, 0, 2, 0, 5), (SPLUS, 0, 2, 1, 9)]),
+        (2, &[(SPLUS, 0, 2, 0, 5), (SMINUS, 1, 2, 1, 15)]),
+        (3, &[(SMINUS, 0, 1, 0, 1)]),
+        (2, &[(SMINUS, 0, 6, 0, 63), (SPLUS, 1, 2, 1, 315), (SMINUS, 2, 1, 1, 567)]),
+        (2, &[(SMINUS, 0, 5, 0, 31), (MINUSS, 1, 4, 0, 15), (SPLUS, 0, 2, 2, 19), (SMINUS, 3, 1, 1, 7)]),
+    ];
+    recipes.map(|(w, lines)| (lines.last().unwrap().4, w, recipe_of(lines))).to_vec()
+}
+
 /// xorshift64*, so that a run can be repeated from its printed seed.
 pub struct Random(u64);
 
@@ -234,12 +262,12 @@ fn coefficient(kind: u64, left: u64, s: u64, right: u64) -> Option<u64> {
 
 /// A random line that an accepted recipe can have next. Operand 0 is tried
 /// half of the time, without which coefficients run out of room.
-fn next_line(coefficients: &[u64], random: &mut Random) -> Fields {
+fn next_line(coefficients: &[u64], most_s: u64, random: &mut Random) -> Fields {
     loop {
         let kind = 1 + random.up_to(2);
         let mut operand = || random.up_to(1) * random.up_to(coefficients.len() as u64 - 1);
         let (left, right) = (operand(), operand());
-        let s = random.up_to(20);
+        let s = random.up_to(most_s);
         if let Some(k) = coefficient(kind, coefficients[left as usize], s, coefficients[right as usize]) {
             return (kind, left, s, right, k);
         }
@@ -249,12 +277,17 @@ fn next_line(coefficients: &[u64], random: &mut Random) -> Fields {
 /// A walk of the wished number of lines, drawn on until it ends in a
 /// coefficient that is a constant; that constant comes with it.
 pub fn walk(lines: usize, random: &mut Random) -> (u64, Vec<Fields>) {
+    walk_within(20, lines, random)
+}
+
+/// The same with no larger shifts than this. Small ones give more pairs.
+pub fn walk_within(most_s: u64, lines: usize, random: &mut Random) -> (u64, Vec<Fields>) {
     loop {
         let (mut walked, mut coefficients) = (Vec::new(), vec![1]);
         while walked.len() < lines {
             let repeat = !walked.is_empty() && random.up_to(7) == 0;
             let again = walked.get(random.up_to(lines as u64) as usize).copied().filter(|_| repeat);
-            let line: Fields = again.unwrap_or_else(|| next_line(&coefficients, random));
+            let line: Fields = again.unwrap_or_else(|| next_line(&coefficients, most_s, random));
             coefficients.push(line.4);
             walked.push(line);
         }

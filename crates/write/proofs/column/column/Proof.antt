@@ -10,7 +10,7 @@ sum-bit-requires c κs =
     let s = c .before in
     let a = s .args in
     let i = c .inputs-of in
-    (i .ensures .unfixed, s .pre .0, sum-fits (a .left) (a .right) (a .carry) (a .next) 2147483648 (i .result) (i .ensures) (a .last) (s .pre .1))
+    (s .pre .0, sum-fits (a .left) (a .right) (a .carry) (a .next) 2147483648 (i .result) (i .ensures) (a .last) (s .pre .1))
 
 returns : tie.Need-returns
 returns c =
@@ -23,7 +23,6 @@ carry-bit-requires c κs =
     let a = s .args in
     let i = c .before .before .inputs-of in
     let m = c .before .sum-bit in (
-      i .ensures .unfixed,
       i .ensures .few,
       omega (arith, s .pre .0, m .ensures .grows),
       carry-fits (a .left) (a .right) (a .carry) (a .next) 2147483648 (i .result) (i .ensures) (rw (c .if1 .left) at (s .pre .1)) (m .result .next) (m .ensures .next),

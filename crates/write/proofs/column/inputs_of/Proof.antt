@@ -1,38 +1,57 @@
--- `column::inputs_of`: the three inputs in their order.
-use mathlib.Core.Path.{ap}
-use mathlib.Core.List.{[], _∷_}
-use native.Mathlib.Omega.{arith}
-use Rattle.gates.specs.Code.{bit-of}
-use Rattle.write.specs.Column.{Sees}
-use Rattle.write.specs.declared.column.Inputs.{Inputs}
-use Rattle.write.specs.declared.column.Unfixed.the-variants.{Nil}
-use Rattle.write.proofs.CodeColumns.{sees-none, sees-more, ones-few}
+-- `column::inputs_of`: the first pair, or the fixed input and the others.
+use Rattle.write.proofs.CodeColumns.{first-seen, second-seen, third-seen, left-fixed, right-fixed, carry-fixed, none-fixed}
 use borrow.Author.Needs.{needs}
 use Rattle.write.proofs.column.inputs_of.Statement.{statement}
 use Rattle.write.proofs.column.inputs_of.Tie as tie
 
-with-input-requires-2 : tie.Need-with-input-requires-2
-with-input-requires-2 c κs = omega (arith, ones-few (record { ones = 0; others = Nil }) (c .before .args .left), ap (λ (i : Inputs). i .ones) (c .with-input .ensures))
-
-with-input-requires-3 : tie.Need-with-input-requires-3
-with-input-requires-3 c κs =
-    omega (
-      arith,
-      ones-few (record { ones = 0; others = Nil }) (c .before .before .args .left),
-      ap (λ (i : Inputs). i .ones) (c .before .with-input .ensures),
-      ones-few (c .before .with-input .result) (c .before .before .args .right),
-      ap (λ (i : Inputs). i .ones) (c .with-input2 .ensures),
-    )
-
 returns : tie.Need-returns
 returns c =
-    let a = c .before .before .before .args in
-    let one : Sees (c .before .before .with-input .result) (bit-of (a .left) ∷ []) =
-    rw (c .before .before .with-input .ensures) (sees-more (record { ones = 0; others = Nil }) [] (a .left) (omega arith) sees-none) in
-    let two : Sees (c .before .with-input2 .result) (bit-of (a .left) ∷ bit-of (a .right) ∷ []) =
-    rw (c .before .with-input2 .ensures) (sees-more _ (bit-of (a .left) ∷ []) (a .right) (omega arith) one) in
-    rw (c .with-input3 .ensures) (sees-more _ (bit-of (a .left) ∷ bit-of (a .right) ∷ []) (a .carry) (omega arith) two)
+    let s = c .before in
+    let a = s .before .args in
+    rw (c .pair .ensures) (first-seen (a .left) (a .right) (a .carry) (s .if1 .taken))
+
+returns-2 : tie.Need-returns-2
+returns-2 c =
+    let s = c .before in
+    let t = s .before in
+    let a = t .before .args in
+    rw (c .pair2 .ensures) (second-seen (a .left) (a .right) (a .carry) (t .if1 .left) (s .if2 .taken))
+
+returns-3 : tie.Need-returns-3
+returns-3 c =
+    let s = c .before in
+    let t = s .before in
+    let u = t .before in
+    let a = u .before .args in
+    rw (c .pair3 .ensures) (third-seen (a .left) (a .right) (a .carry) (u .if1 .left) (t .if2 .left) (s .if3 .taken))
+
+returns-4 : tie.Need-returns-4
+returns-4 c =
+    let s = c .before in
+    let a = s .before .before .before .args in
+    left-fixed (a .left) (a .right) (a .carry) (s .before .before .if1 .left) (s .before .if2 .left) (s .if3 .left) (c .if4 .taken)
+
+returns-5 : tie.Need-returns-5
+returns-5 c =
+    let s = c .before .before in
+    let a = s .before .before .before .args in
+    right-fixed (a .left) (a .right) (a .carry) (s .before .before .if1 .left) (s .before .if2 .left) (s .if3 .left) (c .if5 .taken)
+
+returns-6 : tie.Need-returns-6
+returns-6 c =
+    let s = c .before .before .before in
+    let a = s .before .before .before .args in
+    carry-fixed (a .left) (a .right) (a .carry) (s .before .before .if1 .left) (s .before .if2 .left) (s .if3 .left) (c .if6 .taken)
+
+returns-7 : tie.Need-returns-7
+returns-7 c =
+    let s = c .before .before .before in
+    let a = s .before .before .before .args in
+    none-fixed (a .left) (a .right) (a .carry) (s .before .before .if1 .left) (s .before .if2 .left) (s .if3 .left)
+    (c .before .before .if4 .left) (c .before .if5 .left) (c .if6 .left)
 
 pub inputs-of-spec : {M : Type 1} → statement M
 inputs-of-spec =
-    tie.close (tie.spec (λ c κs. search needs) with-input-requires-2 with-input-requires-3 returns)
+    tie.close
+    (tie.spec (λ c κs. search needs) returns (λ c κs. search needs) returns-2 (λ c κs. search needs) returns-3 returns-4 returns-5 returns-6
+    returns-7)
