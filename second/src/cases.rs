@@ -215,6 +215,7 @@ fn written() -> Vec<String> {
         }
         rows.push(written_row(c, w, &recipe, bits - 1, clauses));
     }
+    // The documents' own row with two inputs of one variable.
     let five = edges::lines(&edges::THREE_FIVE);
     let (bits, clauses) = write_lengths(5, 1, &five);
     rows.push(written_row(5, 1, &five, bits, clauses));

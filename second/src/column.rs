@@ -9,7 +9,7 @@ const INPUTS: usize = 3;
 
 /// A bit's values in the rows of a truth table, over a variable for each input.
 type Rows = u8;
-/// The values of these variables: every row has others.
+/// The values of these variables: no two rows have the same.
 const VALUES: [Rows; INPUTS] = [0b0000_1111, 0b0011_0011, 0b0101_0101];
 
 /// The clauses written so far and the variables opened so far.

@@ -220,8 +220,8 @@ fn right_at_width(random: &mut Random) -> (u64, u64, Vec<u8>) {
     (c, 1 + random.up_to(15), recipe)
 }
 
-/// Where x has few bits and lines shift little, many columns have two inputs of one variable. Some such columns are met
-/// hardly ever but in the recipes by hand.
+/// Where x has few bits and lines shift little, many columns have two inputs of one variable. Some such columns are
+/// hardly ever met except in the recipes by hand.
 fn narrow(random: &mut Random) -> (u64, u64, Vec<u8>) {
     if random.one_in(12) {
         let mut calls = edges::shared();

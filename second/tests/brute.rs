@@ -64,7 +64,7 @@ fn wide_inputs_by_propagation() {
     }
 }
 
-/// By trial, where that is not too much; then the pairs of inputs of one variable are told.
+/// Over all assignments, where these are not too many; then the pairs of inputs of one variable are told.
 fn tried_pairs(c: u64, w: u64, recipe: &[u8], most_new: u32) -> Vec<listed::Pair> {
     let written = written(c, w, recipe);
     if written.highest() - w as u32 > most_new {
@@ -72,7 +72,7 @@ fn tried_pairs(c: u64, w: u64, recipe: &[u8], most_new: u32) -> Vec<listed::Pair
     }
     assert_counted_off_the_room(&written);
     (0..1 << w).for_each(|x| assert_one_model(c, &written, x));
-    pairs_of(w, recipe).into_keys().collect()
+    pairs_of(w, recipe).into_iter().collect()
 }
 
 #[test]
@@ -85,16 +85,19 @@ fn recipes_with_pairs() {
     }
 }
 
-/// Short walks of small shifts over narrow inputs, which have most pairs often.
+/// With at most this many new variables thousands of recipes can be tried.
+const QUICK: u32 = 11;
+
+/// Short walks of small shifts over narrow inputs. The kinds of pairs that they miss come with more new variables.
 #[test]
 fn narrow_walks() {
     let (mut random, mut met) = (Random::seeded(15), BTreeMap::new());
     for round in 0..6_000u64 {
         let (d, lines) = walk_within(6, 1 + round as usize % 5, &mut random);
-        for pair in tried_pairs(d, 1 + round / 5 % 3, &recipe_of(&lines), 11) {
+        for pair in tried_pairs(d, 1 + round / 5 % 3, &recipe_of(&lines), QUICK) {
             *met.entry(pair).or_insert(0) += 1;
         }
     }
     println!("{met:?}");
-    assert!(met.len() >= 12 && met.keys().all(|pair| PAIRS.contains(pair)), "{met:?}");
+    assert!(met.len() >= PAIRS.len() - 3 && met.keys().all(|pair| PAIRS.contains(pair)), "{met:?}");
 }

@@ -35,7 +35,7 @@ fn the_pair_of_recipe_3_5_at_1() {
 fn recipes_with_pairs() {
     let mut met = std::collections::BTreeSet::new();
     for (c, w, recipe) in recipes_with_pairs_of_every_kind() {
-        met.extend(pairs_of(w, &recipe).into_keys());
+        met.extend(pairs_of(w, &recipe));
         (1..=16).for_each(|w| assert_listed(c, w, &recipe));
         for signs in 0..1u32 << w {
             let x: Vec<i32> = (0..w as i32).map(|i| if signs >> i & 1 == 1 { -9 + i } else { 9 - i }).collect();

@@ -8,7 +8,7 @@ use std::collections::BTreeMap;
 /// No clause names a variable twice, and each pair is one that is known; counts the recipes that have it.
 fn note(c: u64, w: u64, recipe: &[u8], met: &mut BTreeMap<listed::Pair, usize>) {
     assert_no_variable_twice(&written(c, w, recipe).room);
-    for pair in pairs_of(w, recipe).into_keys() {
+    for pair in pairs_of(w, recipe) {
         assert!(PAIRS.contains(&pair), "{c} {w}: {pair:?}");
         *met.entry(pair).or_default() += 1;
     }
@@ -22,6 +22,7 @@ fn planned_recipes_name_no_variable_twice() {
         [1, 2, 3, 16].into_iter().for_each(|w| note(c, w, &recipe, &mut met));
     }
     println!("{met:?}");
+    // Most of them are at width 1.
     assert!(met.values().sum::<usize>() > 500, "{met:?}");
 }
 
@@ -35,7 +36,8 @@ fn walks_name_no_variable_twice() {
         note(c, 1 + random.up_to(most_w - 1), &recipe_of(&lines), &mut met);
     }
     println!("{met:?}");
-    assert!(met.values().filter(|recipes| **recipes > 20).count() >= 13, "{met:?}");
+    // All kinds but two, which are hardly ever met except in the recipes by hand.
+    assert!(met.values().filter(|recipes| **recipes > 20).count() >= PAIRS.len() - 2, "{met:?}");
 }
 
 /// With one variable alone any two unfixed inputs are a pair.

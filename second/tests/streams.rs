@@ -193,7 +193,7 @@ fn the_calls_drawn_are_of_every_kind() {
     assert!([met.length_too, met.variables_too, met.bits_too, met.words_too].iter().all(|both| *both > 2), "{met:?}");
 }
 
-/// Calls that succeed have columns with two inputs of one variable, of every kind that there is.
+/// Calls that succeed have columns with two inputs of one variable, of every kind that was found.
 #[test]
 fn the_calls_drawn_have_pairs() {
     let (by_hand, mut met) = (records(&streams::writes(4, 0)).len(), BTreeMap::new());
@@ -201,7 +201,7 @@ fn the_calls_drawn_have_pairs() {
     let right: Vec<&Record> = drawn.iter().filter(|record| answer(record).0.is_ok()).collect();
     let pairs: Vec<_> = right.iter().map(|record| pairs_of(record.w, &record.recipe)).collect();
     let with_pairs = pairs.iter().filter(|pairs| !pairs.is_empty()).count();
-    pairs.iter().flat_map(|pairs| pairs.keys()).for_each(|pair| *met.entry(*pair).or_insert(0) += 1);
+    pairs.iter().flatten().for_each(|pair| *met.entry(*pair).or_insert(0) += 1);
     println!("{with_pairs} of {}: {met:?}", right.len());
     assert!(3 * with_pairs > right.len(), "{with_pairs} of {}", right.len());
     assert!(met.values().all(|calls| *calls > 5) && met.into_keys().eq(PAIRS));

@@ -4,7 +4,7 @@
 -- hold exactly when n has the value that a function of the variables below n gives (`step`). Steps in a row extend every assignment of
 -- the variables below the first to exactly one below the last that satisfies all clauses (`extends-append`, `extends-nil`). The steps
 -- themselves are kept (`steps`), for whoever asks more of them: unit propagation goes step by step (crates/propagate).
--- Nothing here asks which function it is. No clause of a step names a variable twice, so none of steps in a row does (`distinct`).
+-- Nothing here asks which function it is. Where no clause of a step names a variable twice, none of steps in a row does (`distinct`).
 use Prim.Native.Nat.{ℕ, suc, _≤_, _<_, max}
 use mathlib.Core.Path.{_≡_, refl, sym, ap, ap₂, _∙_, subst}
 use mathlib.Core.Logic.{_⊎_, inl, inr, ⊎-elim}
@@ -360,7 +360,7 @@ stands-named l (k ∷ c) s =
     or-either true = refl
     or-either false = refl
 
--- a variable that no literal behind k names is none of theirs
+-- no literal of k's variable stands behind k
 named-once : (k l : Literal) (c : Clause) → clause-names (k .variable) c ≡ false → k .variable ≡ l .variable → Stands-in l c → ⊥
 named-once k l c f e s = false≢true (sym f ∙ ap (λ (v : ℕ). clause-names v c) e ∙ stands-named l c s)
 

@@ -12,7 +12,8 @@ use Rattle.product.specs.Bit.{Bit, reads}
 use Rattle.product.specs.Column.{column}
 use Rattle.product.specs.Lines.{Sum, adder}
 use Rattle.product.specs.Demand.{Bit-below, Bits-below}
-use Rattle.product.proofs.ColumnMeans.{bit-number, bit-more, bits-more, column-adds}
+use Rattle.product.proofs.PairMeans.{bit-number}
+use Rattle.product.proofs.ColumnMeans.{bit-more, bits-more, column-adds}
 
 pub twice : (m j : ℕ) → 2 ^ suc m * j ≡ 2 * (2 ^ m * j)
 twice m j = ap (λ (p : ℕ). p * j) (pow-suc 2 m ∙ mul-comm (2 ^ m) 2) ∙ mul-assoc 2 (2 ^ m) j

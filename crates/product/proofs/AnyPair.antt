@@ -1,7 +1,8 @@
--- Which pair is taken first makes no difference: two pairs overlap only where all three inputs name one variable, and then each leaves the
--- same sum and the same carry. So looking at any pair before the others gives the same column (`any-pair-first`).
+-- Which pair is taken makes no difference: there are two only where all three inputs name one variable, and then each leaves the same
+-- sum and the same carry. So every pair makes the same column (`any-pair`), and any order of looking for one would do.
 use Prim.Native.Nat.{ℕ}
 use mathlib.Core.Path.{_≡_, refl, sym, ap, _∙_, subst}
+use mathlib.Core.Logic.{_≢_, _⊎_, ⊎-elim}
 use mathlib.Core.Bool.{Bool, true, false, Bool·beq, false≢true}
 use mathlib.Core.List.{List, [], _∷_, _++_}
 use lib.Dec.{eqb}
@@ -75,16 +76,20 @@ module _ (p q r : Literal) where
       Alike bits (pair-by y (same p r) (unfixed p) (unfixed q) k) k
   first-and-third x false j e f = λ n. (refl, refl)
   first-and-third false true j e f = alike-of bits (twice true (same p r) (unfixed p) (unfixed q) j)
-  first-and-third true true j e f = all-of-one p q r (eqb-true (p .variable) (q .variable) e) (eqb-true (p .variable) (r .variable) f) _ _ .0
+  first-and-third true true j e f =
+      all-of-one p q r (eqb-true (p .variable) (q .variable) e) (eqb-true (p .variable) (r .variable) f) _ _ .0
 
   -- second and third, before the others
-  second-and-third : (x y z : Bool) → eqb (p .variable) (q .variable) ≡ x → eqb (p .variable) (r .variable) ≡ y → eqb (q .variable) (r .variable) ≡ z
-      → let k = pair-by x (same p q) (unfixed p) (unfixed r) (pair-by y (same p r) (unfixed p) (unfixed q) (pair-by z (same q r) (unfixed q) (unfixed p) none)) in
+  second-and-third : (x y z : Bool) → eqb (p .variable) (q .variable) ≡ x → eqb (p .variable) (r .variable) ≡ y
+      → eqb (q .variable) (r .variable) ≡ z
+      → let j = pair-by z (same q r) (unfixed q) (unfixed p) none in
+      let k = pair-by x (same p q) (unfixed p) (unfixed r) (pair-by y (same p r) (unfixed p) (unfixed q) j) in
       Alike bits (pair-by z (same q r) (unfixed q) (unfixed p) k) k
   second-and-third x y false e f g = λ n. (refl, refl)
   second-and-third false false true e f g = alike-of bits (twice true (same q r) (unfixed q) (unfixed p) none)
   second-and-third false true true e f g =
-      absurd (false≢true (sym e ∙ eq-eqb (p .variable) (q .variable) (eqb-true (p .variable) (r .variable) f ∙ sym (eqb-true (q .variable) (r .variable) g))))
+      let h : p .variable ≡ q .variable = eqb-true (p .variable) (r .variable) f ∙ sym (eqb-true (q .variable) (r .variable) g) in
+      absurd (false≢true (sym e ∙ eq-eqb (p .variable) (q .variable) h))
   second-and-third true y true e f g =
       let h : p .variable ≡ q .variable = eqb-true (p .variable) (q .variable) e in
       all-of-one p q r h (h ∙ eqb-true (q .variable) (r .variable) g) _ _ .1
@@ -100,7 +105,8 @@ Any-alike l r c =
 
 any-alike : (l r c : Bit) → Any-alike l r c
 any-alike (fixed l) r c = (λ n. (refl, refl), λ n. (refl, refl), alike-of (fixed l ∷ r ∷ c ∷ []) (or-twice r c (fixed l) none))
-any-alike (unfixed p) (fixed r) c = (λ n. (refl, refl), alike-of (unfixed p ∷ fixed r ∷ c ∷ []) (or-twice (unfixed p) c (fixed r) none), λ n. (refl, refl))
+any-alike (unfixed p) (fixed r) c =
+    (λ n. (refl, refl), alike-of (unfixed p ∷ fixed r ∷ c ∷ []) (or-twice (unfixed p) c (fixed r) none), λ n. (refl, refl))
 any-alike (unfixed p) (unfixed q) (fixed c) =
     (alike-of (unfixed p ∷ unfixed q ∷ fixed c ∷ []) (or-twice (unfixed p) (unfixed q) (fixed c) none), λ n. (refl, refl), λ n. (refl, refl))
 any-alike (unfixed p) (unfixed q) (unfixed r) = (
@@ -122,14 +128,35 @@ alike-column bs j k a last n =
     carries true m = refl
     carries false m = a m .1
 
--- looked at before the others, each of the three pairs gives the same column
-pub any-pair-first : (l r c : Bit) (last : Bool) (n : ℕ)
-    → let bs : List Bit = l ∷ r ∷ c ∷ [] in
-    let k : Pair = first-pair l r c in
-    (column-of (pair-or l r c k) bs last n ≡ column l r c last n)
-    × (column-of (pair-or l c r k) bs last n ≡ column l r c last n)
-    × (column-of (pair-or r c l k) bs last n ≡ column l r c last n)
+-- ---- every pair makes the same column
+
+-- k is the pair of two of the inputs, and the third remains
+abbrev pub Pair-of : Bit → Bit → Bit → Pair → Type 0
+Pair-of l r c k = (k ≢ none) × ((k ≡ pair-or l r c none) ⊎ ((k ≡ pair-or l c r none) ⊎ (k ≡ pair-or r c l none)))
+
+-- a pair that was found does not depend on what comes later
+found : (a b r : Bit) (j : Pair) → pair-or a b r none ≢ none → pair-or a b r none ≡ pair-or a b r j
+found (fixed a) b r j h = absurd (h refl)
+found (unfixed p) (fixed b) r j h = absurd (h refl)
+found (unfixed p) (unfixed q) r j h = go (eqb (p .variable) (q .variable)) (Bool·beq (p .negated) (q .negated)) h
+  where
+    go : (v s : Bool) → pair-by v s (unfixed p) r none ≢ none → pair-by v s (unfixed p) r none ≡ pair-by v s (unfixed p) r j
+    go true true f = refl
+    go true false f = refl
+    go false s f = absurd (f refl)
+
+pub any-pair : (l r c : Bit) (k : Pair) → Pair-of l r c k → (last : Bool) (n : ℕ)
+    → column-of k (l ∷ r ∷ c ∷ []) last n ≡ column l r c last n
 unfolding column
-any-pair-first l r c last n =
+any-pair l r c k h last n =
     let a = any-alike l r c in
-    (alike-column _ _ _ (a .0) last n, alike-column _ _ _ (a .1) last n, alike-column _ _ _ (a .2) last n)
+    ⊎-elim
+    (λ e. by l r c e (a .0))
+    (⊎-elim (λ e. by l c r e (a .1)) (λ e. by r c l e (a .2)))
+    (h .1)
+  where
+    by : (p q o : Bit) → k ≡ pair-or p q o none → Alike (l ∷ r ∷ c ∷ []) (pair-or p q o (first-pair l r c)) (first-pair l r c)
+        → column-of k (l ∷ r ∷ c ∷ []) last n ≡ column-of (first-pair l r c) (l ∷ r ∷ c ∷ []) last n
+    by p q o e a =
+        let f : k ≡ pair-or p q o (first-pair l r c) = e ∙ found p q o (first-pair l r c) (λ g. h .0 (e ∙ g)) in
+        ap (λ (j : Pair). column-of j (l ∷ r ∷ c ∷ []) last n) f ∙ alike-column (l ∷ r ∷ c ∷ []) _ _ a last n

@@ -61,13 +61,13 @@ sum-of-clauses none bs n h = sum-clauses _ n (literals bs) (omega (arith, inputs
 sum-of-clauses (equal p r) bs n h = sum-clauses _ n (literals (r ∷ [])) (omega (arith, inputs-few (r ∷ [])))
 sum-of-clauses (opposite r) bs n h = sum-clauses _ n (literals (r ∷ [])) (omega (arith, inputs-few (r ∷ [])))
 
-carry-of-clauses : (last : Bool) (k : Pair) (bs : List Bit) (n : ℕ)
+carry-unless-clauses : (last : Bool) (k : Pair) (bs : List Bit) (n : ℕ)
     → (length (carry-unless last k bs n .clauses) ≤ 6) × (length (words (carry-unless last k bs n .clauses)) ≤ 24)
 unfolding carry-of carry-unless
-carry-of-clauses true k bs n = omega arith
-carry-of-clauses false none bs n = carry-clauses (fixed-sum bs) n (literals bs)
-carry-of-clauses false (equal p r) bs n = omega arith
-carry-of-clauses false (opposite r) bs n = omega arith
+carry-unless-clauses true k bs n = omega arith
+carry-unless-clauses false none bs n = carry-clauses (fixed-sum bs) n (literals bs)
+carry-unless-clauses false (equal p r) bs n = omega arith
+carry-unless-clauses false (opposite r) bs n = omega arith
 
 words-of-both : (cs ds : List Clause) → length (words (cs ++ ds)) ≡ length (words cs) + length (words ds)
 words-of-both cs ds = ap length (words-append cs ds) ∙ length-append (words cs) (words ds)
@@ -80,7 +80,7 @@ column-clauses l r c last n =
     let s : Made = sum-of k inputs n in
     let t : Made = carry-unless last k inputs (s .next) in
     let a = sum-of-clauses k inputs n (omega arith) in
-    let b = carry-of-clauses last k inputs (s .next) in
+    let b = carry-unless-clauses last k inputs (s .next) in
     (omega (arith, length-append (s .clauses) (t .clauses), a .0, b .0), omega (arith, words-of-both (s .clauses) (t .clauses), a .1, b .1))
 
 -- ---- a line and a recipe: whatever is counted of clauses, if a column has at most `most` of it

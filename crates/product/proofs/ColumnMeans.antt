@@ -18,11 +18,8 @@ use Rattle.product.specs.Column.{fixed-sum, literals, odd, at-least-two,
 use Rattle.product.specs.Demand.{Bit-below, Bits-below}
 use Rattle.product.proofs.Bounds.{inputs-few}
 use Rattle.product.proofs.Distinct.{parity-distinct, both-distinct, either-distinct, most-distinct}
-use Rattle.product.proofs.PairMeans.{Pair-adds, first-pair-adds, Pair-below, first-pair-below, no-pair-distinct}
+use Rattle.product.proofs.PairMeans.{bit-number, Pair-adds, first-pair-adds, Pair-below, first-pair-below, no-pair-distinct}
 use Rattle.product.proofs.ShapeMeans.{up, total, flips-flips, parity-law, both-law, either-law, most-law}
-
-abbrev pub bit-number : Assignment → Bit → ℕ
-bit-number α b = num (bit-value α b)
 
 -- ---- the inputs as a number
 
@@ -55,8 +52,8 @@ odd-at-least-two (suc (suc zero)) h = refl
 odd-at-least-two (suc (suc (suc zero))) h = refl
 odd-at-least-two (suc (suc (suc (suc t)))) h = absurd (omega arith)
 
-halved : (t : ℕ) (a b : Bool) → t ≡ num a + 2 * num b → (a ≡ odd t) × (b ≡ at-least-two t)
-halved t a b e = subst (λ (k : ℕ). (a ≡ odd k) × (b ≡ at-least-two k)) (sym e) (go a b)
+two-digits : (t : ℕ) (a b : Bool) → t ≡ num a + 2 * num b → (a ≡ odd t) × (b ≡ at-least-two t)
+two-digits t a b e = subst (λ (k : ℕ). (a ≡ odd k) × (b ≡ at-least-two k)) (sym e) (go a b)
   where
     go : (a b : Bool) → (a ≡ odd (num a + 2 * num b)) × (b ≡ at-least-two (num a + 2 * num b))
     go true true = (refl, refl)
@@ -102,7 +99,7 @@ module _ (Used : ℕ → Type 0) where
   bit-more (fixed b) h i = tt
   bit-more (unfixed l) h i = (i .0, omega arith)
 
-  flip-below : (n : ℕ) (b : Bit) → Bit-below Used n b → Bit-below Used n (flip b)
+  pub flip-below : (n : ℕ) (b : Bit) → Bit-below Used n b → Bit-below Used n (flip b)
   flip-below n (fixed b) i = tt
   flip-below n (unfixed l) i = i
 
@@ -237,17 +234,18 @@ module _ (Used : ℕ → Type 0) where
     literals-below : Literals Used n (literals inputs)
     literals-below = literals-in n inputs (il, (ir, (ic, tt)))
 
-    -- with a pair the sum is what remains and the carry the pair's, and neither needs a variable
+    -- with a pair neither the sum nor the carry needs a variable
     sum-of-tied : (k : Pair) → first-pair l r c ≡ k → ((α : Assignment) → Pair-adds α (ones α) k) → Pair-below Used n k
         → Tied n (sum-of k inputs n) (λ α. odd (ones α))
     unfolding sum-of
     sum-of-tied none e h i = sum-tied n (fixed-sum inputs) (literals inputs) (fresh n (le-refl n)) literals-below (no-pair-distinct l r c e)
     sum-of-tied (equal p q) e h i =
         subst (λ (m : Made). Tied n m (λ α. odd (ones α))) (sym (sum-remains q n))
-        (plain-tied n q (λ α. odd (ones α)) (i .1) (λ α. halved (ones α) (bit-value α q) (bit-value α p) (h α) .0))
+        (plain-tied n q (λ α. odd (ones α)) (i .1) (λ α. two-digits (ones α) (bit-value α q) (bit-value α p) (h α) .0))
     sum-of-tied (opposite q) e h i =
         subst (λ (m : Made). Tied n m (λ α. odd (ones α))) (sym (sum-flips q n))
-        (plain-tied n (flip q) (λ α. odd (ones α)) (flip-below n q i) (λ α. halved (ones α) (bit-value α (flip q)) (bit-value α q) (h α) .0))
+        (plain-tied n (flip q) (λ α. odd (ones α)) (flip-below n q i)
+        (λ α. two-digits (ones α) (bit-value α (flip q)) (bit-value α q) (h α) .0))
 
     carry-of-tied : (k : Pair) (m : ℕ) → n ≤ m → first-pair l r c ≡ k → ((α : Assignment) → Pair-adds α (ones α) k) → Pair-below Used n k
         → Tied m (carry-of k inputs m) (λ α. at-least-two (ones α))
@@ -256,9 +254,11 @@ module _ (Used : ℕ → Type 0) where
         carry-tied m (fixed-sum inputs) (literals inputs) (inputs-few inputs) (fresh m g)
         (literals-more Used (literals inputs) g literals-below) (no-pair-distinct l r c e)
     carry-of-tied (equal p q) m g e h i =
-        plain-tied m p (λ α. at-least-two (ones α)) (bit-more p g (i .0)) (λ α. halved (ones α) (bit-value α q) (bit-value α p) (h α) .1)
+        plain-tied m p (λ α. at-least-two (ones α)) (bit-more p g (i .0))
+        (λ α. two-digits (ones α) (bit-value α q) (bit-value α p) (h α) .1)
     carry-of-tied (opposite q) m g e h i =
-        plain-tied m q (λ α. at-least-two (ones α)) (bit-more q g i) (λ α. halved (ones α) (bit-value α (flip q)) (bit-value α q) (h α) .1)
+        plain-tied m q (λ α. at-least-two (ones α)) (bit-more q g i)
+        (λ α. two-digits (ones α) (bit-value α (flip q)) (bit-value α q) (h α) .1)
 
     pair-adds : (α : Assignment) → Pair-adds α (ones α) pair
     pair-adds α = subst (λ (t : ℕ). Pair-adds α t pair) (sum-of-inputs α l r c) (first-pair-adds α l r c)

@@ -34,8 +34,8 @@
 -- where they name none from first on. The new variables are those from first to the one before next (`opened`): each of them stands in some clause,
 -- since else both its values would do, and no other variable does but x's.
 --
--- No variable twice (`no-variable-twice`, and inside `no-variable-twice-inside`). No clause that is read off the words names a variable
--- twice, so none holds a variable and its own negation (`no-negation-beside`).
+-- No variable twice (`no-variable-twice`). No clause that is read off the words names a variable twice, so none holds a variable and its
+-- own negation (`no-negation-beside`).
 --
 -- No bit of y is ever fixed at 1 (`no-bit-fixed-at-1`): literals of distinct variables can all be false, and then y is 0. So an entry 0 always is a bit
 -- fixed at 0.
@@ -44,9 +44,9 @@
 -- odd part of L digits, the clauses that are read off the room are at most 14 * (L + w) for each line.
 --
 -- Why. Each new variable comes with clauses that hold exactly when it equals a function of literals whose variables came before
--- (ShapeMeans), and names none twice, since two inputs of one variable are a pair and leave the sum (PairMeans, Distinct); steps of this
--- kind extend every assignment in exactly one way (crates/cnf, Extend). A column adds (ColumnMeans), so m columns add mod 2^m
--- (AdderMeans), so a line's bits are its coefficient times x mod 2^m (LineMeans), and exactly that, since m columns are enough
+-- (ShapeMeans), and that name no variable twice, since two inputs of one variable are a pair and leave the sum (PairMeans, Distinct);
+-- steps of this kind extend every assignment in exactly one way (crates/cnf, Extend). A column adds (ColumnMeans), so m columns add mod
+-- 2^m (AdderMeans), so a line's bits are its coefficient times x mod 2^m (LineMeans), and exactly that, since m columns are enough
 -- (RecipeMeans). A column has at most 8 + 6 clauses, a line at most L + w columns (Bounds). Words are read back as the clauses that were
 -- written (crates/cnf, Words).
 use Prim.Native.Nat.{ℕ, suc, _+_, _-_, _*_, _/_, _^_, _≤_, _<_}
@@ -89,10 +89,6 @@ pub demand-2-inside : (t : ℕ) (lines : List Line) (x : List Bit) (n : ℕ) →
     → Multiplies (lines-product lines * 2 ^ t) x n (product t lines x n)
 demand-2-inside t lines x n p i g =
     product-means.multiplies (lines-product lines * 2 ^ t) x n (product t lines x n) (product-multiplies From-1 t lines x n (λ v h. omega arith) i g)
-
-pub no-variable-twice-inside : (t : ℕ) (lines : List Line) (x : List Bit) (n : ℕ) → 0 < n → Bits-below From-1 n x
-    → Lines-right lines (1 ∷ []) → All-distinct (product t lines x n .clauses)
-no-variable-twice-inside t lines x n p i g = product-multiplies From-1 t lines x n (λ v h. omega arith) i g .extends .distinct
 
 -- ---- a recipe that the check accepts
 

@@ -15,12 +15,12 @@ use Rattle.line.specs.Line.{Kind, splus, sminus, minuss, gives}
 use Rattle.line.proofs.Value.{Sums, sums-of-gives}
 use Rattle.cnf.specs.Clause.{Assignment, value, satisfies}
 use Rattle.cnf.proofs.Extend.{Extends, Fresh}
-use Rattle.product.specs.Bit.{Bit, fixed, unfixed, flip, bit-value, reads}
+use Rattle.product.specs.Bit.{Bit, fixed, flip, bit-value, reads}
 use Rattle.product.specs.Lines.{adder, shifted, fitted, line-sum}
 use Rattle.product.proofs.Lengths.{length-fitted, length-flipped}
 use Rattle.product.proofs.PairMeans.{flip-number}
-use Rattle.product.specs.Demand.{Bit-below, Bits-below}
-use Rattle.product.proofs.ColumnMeans.{num-le}
+use Rattle.product.specs.Demand.{Bits-below}
+use Rattle.product.proofs.ColumnMeans.{num-le, flip-below}
 use Rattle.product.proofs.AdderMeans.{twice, Adds, adder-adds}
 
 -- ---- equal up to multiples of 2 ^ m
@@ -94,13 +94,9 @@ module _ (Used : ℕ → Type 0) where
   fitted-below n (suc m) [] i = (tt, fitted-below n m [] i)
   fitted-below n (suc m) (b ∷ bs) i = (i .0, fitted-below n m bs (i .1))
 
-  flip-below : (n : ℕ) (b : Bit) → Bit-below Used n b → Bit-below Used n (flip b)
-  flip-below n (fixed b) i = tt
-  flip-below n (unfixed l) i = i
-
   flips-below : (n : ℕ) (bs : List Bit) → Bits-below Used n bs → Bits-below Used n (map flip bs)
   flips-below n [] i = tt
-  flips-below n (b ∷ bs) i = (flip-below n b (i .0), flips-below n bs (i .1))
+  flips-below n (b ∷ bs) i = (flip-below Used n b (i .0), flips-below n bs (i .1))
 
   -- ---- a line
 

@@ -42,12 +42,12 @@ sum-of-grows none bs n = sum-grows _ n _
 sum-of-grows (equal p r) bs n = sum-grows _ n _
 sum-of-grows (opposite r) bs n = sum-grows _ n _
 
-pub carry-of-grows : (last : Bool) (k : Pair) (bs : List Bit) (n : ℕ) → Grows n 1 (carry-unless last k bs n .next)
+pub carry-unless-grows : (last : Bool) (k : Pair) (bs : List Bit) (n : ℕ) → Grows n 1 (carry-unless last k bs n .next)
 unfolding carry-of carry-unless
-carry-of-grows true k bs n = (omega arith, omega arith)
-carry-of-grows false none bs n = carry-grows _ n _
-carry-of-grows false (equal p r) bs n = (omega arith, omega arith)
-carry-of-grows false (opposite r) bs n = (omega arith, omega arith)
+carry-unless-grows true k bs n = (omega arith, omega arith)
+carry-unless-grows false none bs n = carry-grows _ n _
+carry-unless-grows false (equal p r) bs n = (omega arith, omega arith)
+carry-unless-grows false (opposite r) bs n = (omega arith, omega arith)
 
 pub column-grows : (l r c : Bit) (last : Bool) (n : ℕ) → Grows n 2 (column l r c last n .next)
 unfolding column
@@ -55,7 +55,7 @@ column-grows l r c last n =
     let inputs : List Bit = l ∷ r ∷ c ∷ [] in
     let k : Pair = first-pair l r c in
     let s = sum-of-grows k inputs n in
-    let t = carry-of-grows last k inputs (sum-of k inputs n .next) in
+    let t = carry-unless-grows last k inputs (sum-of k inputs n .next) in
     (omega (arith, s .0, t .0), omega (arith, s .1, t .1))
 
 pub adder-grows : (ls rs : List Bit) (c : Bit) (n : ℕ) → Grows n (2 * length ls) (adder ls rs c n .next)

@@ -14,7 +14,10 @@ use Rattle.product.specs.Column.{literals, Pair, none, equal, opposite, 
 use Rattle.product.specs.Demand.{Bit-below}
 use Rattle.product.proofs.ShapeMeans.{flips-not}
 
-pub flip-number : (α : Assignment) (b : Bit) → num (bit-value α (flip b)) + num (bit-value α b) ≡ 1
+abbrev pub bit-number : Assignment → Bit → ℕ
+bit-number α b = num (bit-value α b)
+
+pub flip-number : (α : Assignment) (b : Bit) → bit-number α (flip b) + bit-number α b ≡ 1
 flip-number α (fixed true) = refl
 flip-number α (fixed false) = refl
 flip-number α (unfixed l) = ap (λ (b : Bool). num b + num (value α l)) (flips-not (l .negated) (α (l .variable))) ∙ go (value α l)
@@ -27,8 +30,8 @@ flip-number α (unfixed l) = ap (λ (b : Bool). num b + num (value α l)) (flips
 
 abbrev pub Pair-adds : Assignment → ℕ → Pair → Type 0
 Pair-adds α t none = Unit {0}
-Pair-adds α t (equal p r) = t ≡ num (bit-value α r) + 2 * num (bit-value α p)
-Pair-adds α t (opposite r) = t ≡ num (bit-value α (flip r)) + 2 * num (bit-value α r)
+Pair-adds α t (equal p r) = t ≡ bit-number α r + 2 * bit-number α p
+Pair-adds α t (opposite r) = t ≡ bit-number α (flip r) + 2 * bit-number α r
 
 differ : (a b : Bool) → Bool·beq a b ≡ false → b ≡ not a
 differ true true e = e
@@ -36,7 +39,7 @@ differ true false e = refl
 differ false true e = refl
 differ false false e = sym e
 
-pair-or-adds : (α : Assignment) (a b r : Bit) (k : Pair) (t : ℕ) → t ≡ num (bit-value α a) + num (bit-value α b) + num (bit-value α r)
+pair-or-adds : (α : Assignment) (a b r : Bit) (k : Pair) (t : ℕ) → t ≡ bit-number α a + bit-number α b + bit-number α r
     → Pair-adds α t k → Pair-adds α t (pair-or a b r k)
 pair-or-adds α (fixed a) b r k t e h = h
 pair-or-adds α (unfixed p) (fixed b) r k t e h = h
@@ -46,7 +49,11 @@ pair-or-adds α (unfixed p) (unfixed q) r k t e h = go (eqb (p .variable) (q .va
         → Pair-adds α t (pair-by v s (unfixed p) r k)
     go false s f g = h
     go true true f g =
-        omega (arith, e, ap num (ap₂ (λ (n : Bool) (v : ℕ). flips n (α v)) (eq-of-beq (p .negated) (q .negated) g) (eqb-true (p .variable) (q .variable) f)))
+        omega (
+          arith,
+          e,
+          ap num (ap₂ (λ (n : Bool) (v : ℕ). flips n (α v)) (eq-of-beq (p .negated) (q .negated) g) (eqb-true (p .variable) (q .variable) f)),
+        )
     go true false f g =
         omega (
           arith,
@@ -57,9 +64,9 @@ pair-or-adds α (unfixed p) (unfixed q) r k t e h = go (eqb (p .variable) (q .va
         )
 
 pub first-pair-adds : (α : Assignment) (l r c : Bit)
-    → Pair-adds α (num (bit-value α l) + num (bit-value α r) + num (bit-value α c)) (first-pair l r c)
+    → Pair-adds α (bit-number α l + bit-number α r + bit-number α c) (first-pair l r c)
 first-pair-adds α l r c =
-    let t = num (bit-value α l) + num (bit-value α r) + num (bit-value α c) in
+    let t = bit-number α l + bit-number α r + bit-number α c in
     pair-or-adds α l r c _ t refl (pair-or-adds α l c r _ t (omega arith) (pair-or-adds α r c l none t (omega arith) tt))
 
 -- ---- the variables below n

@@ -18,7 +18,7 @@ use Rattle.product.specs.Product.{last, Product, product}
 use Rattle.product.specs.Demand.{Bit-below, Bits-below, Lines-right, lines-product, Multiplies}
 use Rattle.product.proofs.BitLengths.{columns-of-0, columns-of-x}
 use Rattle.product.proofs.Lengths.{length-shifted, length-line}
-use Rattle.product.proofs.ColumnMeans.{bit-number}
+use Rattle.product.proofs.PairMeans.{bit-number}
 use Rattle.product.proofs.LineMeans.{reads-lt, reads-shifted, shifted-below}
 use Rattle.product.proofs.RecipeMeans.{coefficients, Related, related-snoc, related-last, All-below, exact, recipe-multiplies}
 

@@ -1,8 +1,8 @@
 -- Names do not matter: where variables are renamed, with signs, and new variables go to new variables, every column, sum, line, recipe and
 -- product is the old one renamed. So how many words, clauses and new variables there are does not depend on the names.
 --
--- Only `column-renamed` knows what a column is; all above it knows `Column-renamed`. Distinct variables stay distinct (`apart`), since a column
--- asks whether two inputs name one variable.
+-- Only `column-renamed` knows what a column is; all above it knows `Column-renamed`. Distinct variables stay distinct (`apart`), since a
+-- column asks whether two inputs name one variable.
 use Prim.Native.Nat.{ℕ, zero, suc, _+_}
 use mathlib.Core.Path.{_≡_, refl, sym, ap, ap₂, _∙_}
 use mathlib.Core.Bool.{Bool, true, false, not, Bool·beq}
@@ -174,12 +174,18 @@ module _ (ρ : Renaming) where
         signs false = refl
 
         go : Dec (p .variable ≡ q .variable)
-            → pair-or (bit-renamed ρ (unfixed p)) (bit-renamed ρ (unfixed q)) (bit-renamed ρ r) k′ ≡ pair-renamed (pair-or (unfixed p) (unfixed q) r k)
+            → pair-or (bit-renamed ρ (unfixed p)) (bit-renamed ρ (unfixed q)) (bit-renamed ρ r) k′
+            ≡ pair-renamed (pair-or (unfixed p) (unfixed q) r k)
         go (yes f) =
             let b : Bool = ρ (p .variable) .negated in
             let g : Bool·beq (flips (p .negated) b) (flips (q .negated) (ρ (q .variable) .negated)) ≡ Bool·beq (p .negated) (q .negated) =
-            ap (λ (v : ℕ). Bool·beq (flips (p .negated) b) (flips (q .negated) (ρ v .negated))) (sym f) ∙ same-sign (p .negated) (q .negated) b in
-            rw (eq-eqb (p .variable) (q .variable) f, eq-eqb (ρ (p .variable) .variable) (ρ (q .variable) .variable) (ap (λ (v : ℕ). ρ v .variable) f), g)
+            ap (λ (v : ℕ). Bool·beq (flips (p .negated) b) (flips (q .negated) (ρ v .negated))) (sym f)
+            ∙ same-sign (p .negated) (q .negated) b in
+            rw (
+              eq-eqb (p .variable) (q .variable) f,
+              eq-eqb (ρ (p .variable) .variable) (ρ (q .variable) .variable) (ap (λ (v : ℕ). ρ v .variable) f),
+              g,
+            )
             (signs (Bool·beq (p .negated) (q .negated)))
         go (no f) =
             rw (
@@ -196,13 +202,13 @@ module _ (ρ : Renaming) where
     sum-of-renamed (equal p r) bs = rw (fixed-sum-renamed (r ∷ []), literals-renamed (r ∷ [])) (sum-renamed h _ _)
     sum-of-renamed (opposite r) bs = rw (fixed-sum-renamed (r ∷ []), literals-renamed (r ∷ [])) (sum-renamed h _ _)
 
-    carry-of-renamed : (last : Bool) (k : Pair) (bs : List Bit)
+    carry-unless-renamed : (last : Bool) (k : Pair) (bs : List Bit)
         → Made-renamed n m (carry-unless last k bs n) (carry-unless last (pair-renamed k) (bits-renamed ρ bs) m)
     unfolding carry-of carry-unless
-    carry-of-renamed true k bs = plain-renamed h _ _ refl
-    carry-of-renamed false none bs = rw (fixed-sum-renamed bs, literals-renamed bs) (carry-renamed h _ _)
-    carry-of-renamed false (equal p r) bs = plain-renamed h _ _ refl
-    carry-of-renamed false (opposite r) bs = plain-renamed h _ _ refl
+    carry-unless-renamed true k bs = plain-renamed h _ _ refl
+    carry-unless-renamed false none bs = rw (fixed-sum-renamed bs, literals-renamed bs) (carry-renamed h _ _)
+    carry-unless-renamed false (equal p r) bs = plain-renamed h _ _ refl
+    carry-unless-renamed false (opposite r) bs = plain-renamed h _ _ refl
 
   -- ---- the column
 
@@ -221,7 +227,7 @@ module _ (ρ : Renaming) where
       let inputs : List Bit = l ∷ r ∷ c ∷ [] in
       let k : Pair = first-pair l r c in
       let s = sum-of-renamed h k inputs in
-      let t = carry-of-renamed (renames-more (s .opened) h (s .next) (s .next′)) last k inputs in
+      let t = carry-unless-renamed (renames-more (s .opened) h (s .next) (s .next′)) last k inputs in
       let s₀ : Made = sum-of k inputs n in
       let t₀ : Made = carry-unless last k inputs (s₀ .next) in
       rw (first-pair-renamed h l r c) (record {

@@ -1,6 +1,6 @@
 -- The five shapes of clauses: parity of two and of three literals, both, either, most. Each holds exactly when its own literal has the
 -- value of its function of the other literals' values: odd, or at least two, of the fixed inputs and the true literals. The laws go by
--- the values of the literals, so they stand also where two inputs name one variable.
+-- the values of the literals.
 use Prim.Native.Nat.{ℕ, suc}
 use mathlib.Core.Path.{_≡_, refl, ap, ap₂, _∙_}
 use mathlib.Core.Bool.{Bool, true, false, not, _&&_, _||_, Bool·beq}

@@ -37,6 +37,7 @@ pub data Pair : Type 0 where
   equal : Bit → Bit → Pair
   opposite : Bit → Pair
 
+-- whether the two are of one variable, and whether they are equal
 abbrev pub pair-by : Bool → Bool → Bit → Bit → Pair → Pair
 pair-by true true a r later = equal a r
 pair-by true false a r later = opposite r

@@ -12,7 +12,7 @@ use Rattle.cnf.specs.Clause.{Literal, Clause, negation, new}
 use Rattle.product.specs.Bit.{Bit, fixed, unfixed, flip}
 use Rattle.product.specs.Column.{fixed-sum, literals, odd, Pair, none, equal, opposite, pair-by, pair-or, first-pair, parity, sum, both, either, most, carry, sum-of, carry-of, carry-unless, Made, plain, column}
 use Rattle.product.proofs.AnyPair.{Alike}
-use Rattle.product.proofs.Nexts.{carry-of-grows}
+use Rattle.product.proofs.Nexts.{carry-unless-grows}
 use Rattle.product.proofs.ColumnMeans.{sum-remains, sum-flips}
 use Rattle.gates.specs.Code.{code-sign, literal-of, bit-of, flipped-code}
 use Rattle.gates.specs.Gate.{column-clauses}
@@ -34,7 +34,7 @@ any-pair-or (unfixed p) b r later = pair-or (unfixed p) b r later
 abbrev any-first-pair : Bit → Bit → Bit → Pair
 any-first-pair l r c = any-pair-or l r c (any-pair-or l c r (any-pair-or r c l none))
 
--- a pair of fixed bits says what their sum says
+-- two fixed bits taken as a pair give the sum and the carry of document 01's cases
 any-pair-alike : (l r c : Bit) → Alike (l ∷ r ∷ c ∷ []) (any-first-pair l r c) (first-pair l r c)
 unfolding sum carry sum-of carry-of
 any-pair-alike (fixed true) (fixed true) (fixed true) n = (refl, refl)
@@ -107,6 +107,9 @@ any-pair-no a b r k e = go (decLt a 2) (decLt b 2)
 module _ (l r c : ℕ) where
   abbrev bits : List Bit
   bits = bit-of l ∷ bit-of r ∷ bit-of c ∷ []
+
+  abbrev pair : Pair
+  pair = first-pair (bit-of l) (bit-of r) (bit-of c)
 
   abbrev seen : Inputs → Type 0
   seen i = Sees i (bit-of l) (bit-of r) (bit-of c)
@@ -196,17 +199,17 @@ plain-is b z k e = record { bit = e; clauses = refl; next = refl; grows = omega 
 pub bit-flipped-by-1 : (b : ℕ) → bit-of (flipped-code b 1) ≡ flip (bit-of b)
 bit-flipped-by-1 b = ap (λ (x : ℕ). bit-of x) (flipped-odd b 1 refl) ∙ bit-negated b
 
-pub sum-of-two : (p q f z : ℕ) → 0 < z
+pub sum-two-is : (p q f z : ℕ) → 0 < z
     → MatchesBit z (record { bit = 2 * z; gate = ParityOfTwo p q (flipped-code (2 * z) f); next = z + 1 }) (sum f (literal-of p ∷ literal-of q ∷ []) z)
 unfolding sum
-sum-of-two p q f z h =
+sum-two-is p q f z h =
     record { bit = bit-new z h; clauses = parity-flipped (literal-of p ∷ literal-of q ∷ []) f z; next = add-one z; grows = omega arith }
 
-pub sum-of-three : (p q r z : ℕ) → 0 < z
+pub sum-three-is : (p q r z : ℕ) → 0 < z
     → MatchesBit z (record { bit = 2 * z; gate = ParityOfThree p q r (2 * z); next = z + 1 })
     (sum 0 (literal-of p ∷ literal-of q ∷ literal-of r ∷ []) z)
 unfolding sum
-sum-of-three p q r z h =
+sum-three-is p q r z h =
     record {
       bit = bit-new z h;
       clauses = ap (λ (l : Literal). parity (literal-of p ∷ literal-of q ∷ literal-of r ∷ []) (l .negated) (l .variable)) (literal-new z);
@@ -223,25 +226,25 @@ both-negated : (p q t : Literal) → both (negation p) (negation q) (negation t)
 unfolding both either
 both-negated p q t = simp negation-twice
 
-pub carry-of-two : (p q f t : ℕ) → f ≤ 1 → 0 < t
+pub carry-two-is : (p q f t : ℕ) → f ≤ 1 → 0 < t
     → MatchesBit t (record { bit = 2 * t; gate = Both (flipped-code p f) (flipped-code q f) (flipped-code (2 * t) f); next = t + 1 }) (carry f (literal-of p ∷ literal-of q ∷ []) t)
 unfolding carry flipped-code
-carry-of-two p q zero t h k =
+carry-two-is p q zero t h k =
     record { bit = bit-new t k; clauses = ap (λ (l : Literal). both (literal-of p) (literal-of q) l) (literal-new t); next = add-one t; grows = omega arith }
-carry-of-two p q (suc zero) t h k =
+carry-two-is p q (suc zero) t h k =
     record {
       bit = bit-new t k;
       clauses = simp (literal-negated, literal-new) (both-negated (literal-of p) (literal-of q) (new t));
       next = add-one t;
       grows = omega arith;
     }
-carry-of-two p q (suc (suc f)) t h k = absurd (omega arith)
+carry-two-is p q (suc (suc f)) t h k = absurd (omega arith)
 
-pub carry-of-three : (p q r t : ℕ) → 0 < t
+pub carry-three-is : (p q r t : ℕ) → 0 < t
     → MatchesBit t (record { bit = 2 * t; gate = Most p q r (2 * t); next = t + 1 })
     (carry 0 (literal-of p ∷ literal-of q ∷ literal-of r ∷ []) t)
 unfolding carry
-carry-of-three p q r t k =
+carry-three-is p q r t k =
     record { bit = bit-new t k; clauses = ap (λ (l : Literal). most (literal-of p) (literal-of q) (literal-of r) l) (literal-new t); next = add-one t; grows = omega arith }
 
 -- ---- a bit of two or three unfixed inputs is a new variable: where the next free one is at most k, it is below k
@@ -271,23 +274,21 @@ carry-opens-three t k e h = rw e at h
 
 -- where the column's next free variable is at most k, so is the sum's, and the carry's
 module _ (l r c z k : ℕ) (i : Inputs) (v : Sees i (bit-of l) (bit-of r) (bit-of c)) where
-  abbrev pair : Pair
-  pair = first-pair (bit-of l) (bit-of r) (bit-of c)
-
   pub sum-fits : (last : Bool) → column (bit-of l) (bit-of r) (bit-of c) last z .next ≤ k → inputs-sum i z .next ≤ k
   unfolding column
   sum-fits last h =
-      omega (arith, h, ap (λ (m : Made). m .next) (v .sum z), carry-of-grows last pair (bits l r c) (sum-of pair (bits l r c) z .next) .0)
+      let s : Made = sum-of (pair l r c) (bits l r c) z in
+      omega (arith, h, ap (λ (m : Made). m .next) (v .sum z), carry-unless-grows last (pair l r c) (bits l r c) (s .next) .0)
 
   pub carry-fits : column (bit-of l) (bit-of r) (bit-of c) false z .next ≤ k → (n : ℕ) → n ≡ inputs-sum i z .next
       → inputs-carry i n .next ≤ k
   unfolding column carry-unless
   carry-fits h n e =
-      let f : n ≡ sum-of pair (bits l r c) z .next = e ∙ ap (λ (m : Made). m .next) (v .sum z) in
-      omega (arith, h, ap (λ (m : Made). m .next) (v .carry n), ap (λ (j : ℕ). carry-of pair (bits l r c) j .next) f)
+      let f : n ≡ sum-of (pair l r c) (bits l r c) z .next = e ∙ ap (λ (m : Made). m .next) (v .sum z) in
+      omega (arith, h, ap (λ (m : Made). m .next) (v .carry n), ap (λ (j : ℕ). carry-of (pair l r c) (bits l r c) j .next) f)
 
 module _ (l r c z : ℕ) (i : Inputs) (s : MadeBit) (v : Sees i (bit-of l) (bit-of r) (bit-of c)) (m : MatchesBit z s (inputs-sum i z)) where
-  sum-is : MatchesBit z s (sum-of (first-pair (bit-of l) (bit-of r) (bit-of c)) (bit-of l ∷ bit-of r ∷ bit-of c ∷ []) z)
+  sum-is : MatchesBit z s (sum-of (pair l r c) (bits l r c) z)
   sum-is = subst (λ (k : Made). MatchesBit z s k) (v .sum z) m
 
   pub last-column-is : MatchesColumn z (record { sum = s .bit; carry = 0; next = s .next; parity = s .gate; majority = Empty }) (column (bit-of l) (bit-of r) (bit-of c) true z)
@@ -305,8 +306,7 @@ module _ (l r c z : ℕ) (i : Inputs) (s : MadeBit) (v : Sees i (bit-of l) (bit-
       → MatchesColumn z (record { sum = s .bit; carry = t .bit; next = t .next; parity = s .gate; majority = t .gate }) (column (bit-of l) (bit-of r) (bit-of c) false z)
   unfolding column carry-unless column-clauses
   column-is t m₂ =
-      let k = first-pair (bit-of l) (bit-of r) (bit-of c) in
-      let u = subst (λ (n : ℕ). MatchesBit (s .next) t (carry-of k (bit-of l ∷ bit-of r ∷ bit-of c ∷ []) n)) (sum-is .next)
+      let u = subst (λ (n : ℕ). MatchesBit (s .next) t (carry-of (pair l r c) (bits l r c) n)) (sum-is .next)
       (subst (λ (j : Made). MatchesBit (s .next) t j) (v .carry (s .next)) m₂) in
       record {
         sum = sum-is .bit;

@@ -33,6 +33,7 @@ inputs-carry (Opposite rest) n = plain (bit-of rest) n
 inputs-carry (Two f p q) n = carry f (literal-of p ∷ literal-of q ∷ []) n
 inputs-carry (Three p q r) n = carry 0 (literal-of p ∷ literal-of q ∷ literal-of r ∷ []) n
 
+-- the fixed input beside two others is 0 or 1
 abbrev pub FixedFew : Inputs → Type 0
 FixedFew (Equal p rest) = Unit {0}
 FixedFew (Opposite rest) = Unit {0}
@@ -45,7 +46,7 @@ pub record Sees (i : Inputs) (left right over : Bit) : Type 0 where
   pub carry : (n : ℕ) → inputs-carry i n ≡ carry-of (first-pair left right over) (left ∷ right ∷ over ∷ []) n
   pub few : FixedFew i
 
--- ---- what was made is what document 01 makes, from variable n on
+-- ---- what was made is what the definition makes, from variable n on
 
 pub record MatchesBit (n : ℕ) (m : MadeBit) (k : Made) : Type 0 where
   pub bit : bit-of (m .bit) ≡ k .bit

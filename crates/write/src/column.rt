@@ -10,7 +10,8 @@ use gates::flipped;
 
 // ---- a column's inputs
 
-// A pair and the input that remains, or the fixed input and the others in their order, or three unfixed inputs.
+// An equal pair's literal and the input that remains; the input that remains beside an opposite pair; the fixed input and the other two in
+// their order; three unfixed inputs.
 pub enum Inputs {
     Equal(u32, u32),
     Opposite(u32),
@@ -29,7 +30,7 @@ fn pair(a: u32, b: u32, rest: u32) -> Inputs
     }
 }
 
-// A fixed bit counts as a literal of variable 0: two of them are a pair as any other, and then what remains decides.
+// A fixed bit counts as a literal of variable 0: two of them are a pair like any other, so no case of none or one unfixed input is left.
 fn inputs_of(left: u32, right: u32, carry: u32) -> Inputs
     ensures { λ i. ⌜ Sees i (bit-of left) (bit-of right) (bit-of carry) ⌝ }
 {

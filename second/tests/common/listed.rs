@@ -2,7 +2,7 @@
 //! words them. The engine derives all of it from truth tables instead.
 
 use super::*;
-use std::collections::BTreeMap;
+use std::collections::BTreeSet;
 
 /// A bit as a word: a literal, or one of these two.
 const FALSE: i32 = i32::MIN;
@@ -81,8 +81,7 @@ fn first_pair(inputs: [i32; 3]) -> Option<([usize; 2], i32)> {
 pub struct Listed {
     pub words: Vec<i32>,
     pub highest: i32,
-    pub columns: usize,
-    pub pairs: BTreeMap<Pair, usize>,
+    pub pairs: BTreeSet<Pair>,
 }
 
 impl Listed {
@@ -153,12 +152,11 @@ impl Listed {
             _ => Rest::Other,
         };
         let column = if last { Column::Last } else { Column::Inner };
-        *self.pairs.entry((kind, [a + 1, b + 1], rest, column)).or_default() += 1;
+        self.pairs.insert((kind, [a + 1, b + 1], rest, column));
     }
 
     /// Both of a pair leave the sum. Equal, they are the carry; opposite, they flip the parity and the carry is the rest.
     fn column(&mut self, inputs: [i32; 3], last: bool) -> (i32, Option<i32>) {
-        self.columns += 1;
         let split = |inputs: &[i32]| -> (Vec<i32>, i32) {
             let unfixed = inputs.iter().copied().filter(|bit| !fixed(*bit)).collect();
             (unfixed, inputs.iter().filter(|bit| **bit == TRUE).count() as i32)
@@ -201,7 +199,7 @@ fn fields(line: &[u8]) -> Fields {
 }
 
 /// The pairs of a recipe at a width.
-pub fn pairs_of(w: u64, recipe: &[u8]) -> BTreeMap<Pair, usize> {
+pub fn pairs_of(w: u64, recipe: &[u8]) -> BTreeSet<Pair> {
     let x: Vec<i32> = (1..=w as i32).collect();
     Listed::of(&x, w as u32 + 1, recipe).1.pairs
 }

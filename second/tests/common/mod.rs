@@ -194,7 +194,7 @@ pub fn assert_no_variable_twice(room: &[i32]) {
     }
 }
 
-/// Recipes of small coefficients whose columns, at the width beside each, have a pair of every kind that there is.
+/// Recipes of small coefficients whose columns, at the width beside each, have a pair of every kind that was found.
 pub fn recipes_with_pairs_of_every_kind() -> Vec<(u64, u64, Vec<u8>)> {
     let recipes: [(u64, &[Fields]); 11] = [
         (1, &[(SPLUS, 0, 1, 0, 3), (SMINUS, 1, 1, 0, 5)]),

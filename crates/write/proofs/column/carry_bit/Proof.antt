@@ -1,6 +1,6 @@
 -- `column::carry_bit`: the carry, by the inputs.
 use mathlib.Core.Path.{refl}
-use Rattle.write.proofs.CodeColumns.{plain-is, carry-of-two, carry-of-three, carry-opens-two, carry-opens-three}
+use Rattle.write.proofs.CodeColumns.{plain-is, carry-two-is, carry-three-is, carry-opens-two, carry-opens-three}
 use native.Mathlib.Omega.{arith}
 use borrow.Author.Needs.{needs}
 use Rattle.write.proofs.column.carry_bit.Statement.{statement}
@@ -47,10 +47,10 @@ returns-3 c =
     let s = c .before .before .before .before in
     let h = rw (s .i3 .given .1) at (s .before .before .pre .0) in
     rw (s .i3 .given .1, c .before .before .flipped .ensures, c .before .flipped2 .ensures, c .flipped3 .ensures)
-    (carry-of-two _ _ _ _ h (s .before .before .pre .1))
+    (carry-two-is _ _ _ _ h (s .before .before .pre .1))
 
 returns-4 : tie.Need-returns-4
-returns-4 c = rw (c .before .i4 .given .1) (carry-of-three _ _ _ _ (c .before .before .before .pre .1))
+returns-4 c = rw (c .before .i4 .given .1) (carry-three-is _ _ _ _ (c .before .before .before .pre .1))
 
 pub carry-bit-spec : {M : Type 1} → statement M
 carry-bit-spec =

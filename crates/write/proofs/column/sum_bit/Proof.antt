@@ -1,5 +1,5 @@
 -- `column::sum_bit`: the sum, by the inputs.
-use Rattle.write.proofs.CodeColumns.{plain-is, bit-flipped-by-1, sum-of-two, sum-of-three, sum-opens-two, sum-opens-three}
+use Rattle.write.proofs.CodeColumns.{plain-is, bit-flipped-by-1, sum-two-is, sum-three-is, sum-opens-two, sum-opens-three}
 use native.Mathlib.Omega.{arith}
 use mathlib.Core.Path.{refl}
 use borrow.Author.Needs.{needs}
@@ -43,10 +43,10 @@ returns-2 : tie.Need-returns-2
 returns-2 c = rw (c .before .before .i2 .given .1, c .flipped .ensures) (plain-is _ _ _ (bit-flipped-by-1 _))
 
 returns-3 : tie.Need-returns-3
-returns-3 c = rw (c .before .before .i3 .given .1, c .flipped2 .ensures) (sum-of-two _ _ _ _ (c .before .before .before .before .pre .0))
+returns-3 c = rw (c .before .before .i3 .given .1, c .flipped2 .ensures) (sum-two-is _ _ _ _ (c .before .before .before .before .pre .0))
 
 returns-4 : tie.Need-returns-4
-returns-4 c = rw (c .before .i4 .given .1) (sum-of-three _ _ _ _ (c .before .before .before .pre .0))
+returns-4 c = rw (c .before .i4 .given .1) (sum-three-is _ _ _ _ (c .before .before .before .pre .0))
 
 pub sum-bit-spec : {M : Type 1} → statement M
 sum-bit-spec =
