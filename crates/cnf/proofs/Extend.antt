@@ -374,7 +374,8 @@ never-beside (k ∷ c) d l s t =
     (λ (g : negation l ≡ k). not-itself (l .negated) (ap (λ (m : Literal). m .negated) (g ∙ sym e)))
     (λ u. named-once k (negation l) c (d .0) (ap (λ (m : Literal). m .variable) (sym e)) u)
     t)
-    (λ r. ⊎-elim (λ (g : negation l ≡ k). named-once k l c (d .0) (ap (λ (m : Literal). m .variable) (sym g)) r) (λ u. never-beside c (d .1) l r u) t)
+    (λ r.
+    ⊎-elim (λ (g : negation l ≡ k). named-once k l c (d .0) (ap (λ (m : Literal). m .variable) (sym g)) r) (λ u. never-beside c (d .1) l r u) t)
     s
 
 pub never-beside-in : (cs : List Clause) → All-distinct cs → (c : Clause) → Stands-in c cs

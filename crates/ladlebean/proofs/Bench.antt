@@ -1,5 +1,6 @@
 -- The worked cases as whole tables. `bench-right` is document 01's bench sums: every sum marked P is a row of `bench`, the last of writing
--- as request b has it, and each row is what the definitions give. `agreed-right` says the same of the second engine's answers. Assumes nothing.
+-- as request b has it, and each row is what the definitions give. `agreed-right` says the same of the second engine's answers. Assumes
+-- nothing.
 use mathlib.Core.Path.{refl}
 use Rattle.cases.specs.Table.{Table}
 use Rattle.cases.specs.Bench.{bench}

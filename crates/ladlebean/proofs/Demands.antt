@@ -8,14 +8,15 @@
 -- exactly where they say: that is the text of the three functions. A refusal writes nothing (`planning-refused`, `writing-refused`): where the
 -- answer is a refusal, whichever it is, each room at exit is what it was.
 --
--- Demand 2. A recipe is accepted exactly when it is right (`accepted-exactly`): c is in range, there are at most 32 lines of five bytes, each line has
--- the form, names earlier operands, claims an odd coefficient and exactly the one that its kind gives, and the product is c's odd part. For an
--- accepted one, a width from 1 to 16, as many literals of distinct variables below the first free number, room for the new numbers and rooms that
--- suffice, writing does not refuse, and in the DIMACS meaning of the words that stand in the
--- clause room each assignment of the variables below the first free number extends to exactly one of those below the next that satisfies them, and
--- there the entries of the bit room read as c times the number that the given literals read as (`each-input`). The new variables are those from the
--- first free number to the one before the next: each stands in some clause, and the clauses name no others but x's (`new-variables`). In the words of
--- every call that succeeds no clause names a variable twice (`no-variable-twice`), so none holds a variable and its own negation (`no-negation-beside`).
+-- Demand 2. A recipe is accepted exactly when it is right (`accepted-exactly`): c is in range, there are at most 32 lines of five bytes,
+-- each line has the form, names earlier operands, claims an odd coefficient and exactly the one that its kind gives, and the product is c's
+-- odd part. For an accepted one, a width from 1 to 16, as many literals of distinct variables below the first free number, room for the new
+-- numbers and rooms that suffice, writing does not refuse, and in the DIMACS meaning of the words that stand in the clause room each
+-- assignment of the variables below the first free number extends to exactly one of those below the next that satisfies them, and there the
+-- entries of the bit room read as c times the number that the given literals read as (`each-input`). The new variables are those from the
+-- first free number to the one before the next: each stands in some clause, and the clauses name no others but x's (`new-variables`). In
+-- the words of every call that succeeds no clause names a variable twice (`no-variable-twice`), so none holds a variable and its own
+-- negation (`no-negation-beside`).
 --
 -- Document 01's call is the case where x is the variables 1 to w and the first free number is w + 1: its tests are document 01's in document 01's order,
 -- so that it never refuses by 14 or 15 (`plain-tests`), and each input of the width has exactly one assignment (`plain-each-input`). Every other call of

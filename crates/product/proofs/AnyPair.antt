@@ -107,12 +107,15 @@ any-alike : (l r c : Bit) → Any-alike l r c
 any-alike (fixed l) r c = (λ n. (refl, refl), λ n. (refl, refl), alike-of (fixed l ∷ r ∷ c ∷ []) (or-twice r c (fixed l) none))
 any-alike (unfixed p) (fixed r) c =
     (λ n. (refl, refl), alike-of (unfixed p ∷ fixed r ∷ c ∷ []) (or-twice (unfixed p) c (fixed r) none), λ n. (refl, refl))
-any-alike (unfixed p) (unfixed q) (fixed c) =
-    (alike-of (unfixed p ∷ unfixed q ∷ fixed c ∷ []) (or-twice (unfixed p) (unfixed q) (fixed c) none), λ n. (refl, refl), λ n. (refl, refl))
+any-alike (unfixed p) (unfixed q) (fixed c) = (
+  alike-of (unfixed p ∷ unfixed q ∷ fixed c ∷ []) (or-twice (unfixed p) (unfixed q) (fixed c) none),
+  λ n. (refl, refl),
+  λ n. (refl, refl),
+)
 any-alike (unfixed p) (unfixed q) (unfixed r) = (
   alike-of (bits p q r) (or-twice (unfixed p) (unfixed q) (unfixed r) _),
-  first-and-third p q r (eqb (p .variable) (q .variable)) (eqb (p .variable) (r .variable)) _ refl refl,
-  second-and-third p q r (eqb (p .variable) (q .variable)) (eqb (p .variable) (r .variable)) (eqb (q .variable) (r .variable)) refl refl refl,
+  first-and-third p q r _ _ _ refl refl,
+  second-and-third p q r _ _ _ refl refl refl,
 )
 
 alike-column : (bs : List Bit) (j k : Pair) → Alike bs j k → (last : Bool) (n : ℕ) → column-of j bs last n ≡ column-of k bs last n

@@ -45,20 +45,18 @@ pair-or-adds α (fixed a) b r k t e h = h
 pair-or-adds α (unfixed p) (fixed b) r k t e h = h
 pair-or-adds α (unfixed p) (unfixed q) r k t e h = go (eqb (p .variable) (q .variable)) (Bool·beq (p .negated) (q .negated)) refl refl
   where
+    at : Bool → ℕ → Bool
+    at n v = flips n (α v)
+
     go : (v s : Bool) → eqb (p .variable) (q .variable) ≡ v → Bool·beq (p .negated) (q .negated) ≡ s
         → Pair-adds α t (pair-by v s (unfixed p) r k)
     go false s f g = h
-    go true true f g =
-        omega (
-          arith,
-          e,
-          ap num (ap₂ (λ (n : Bool) (v : ℕ). flips n (α v)) (eq-of-beq (p .negated) (q .negated) g) (eqb-true (p .variable) (q .variable) f)),
-        )
+    go true true f g = omega (arith, e, ap num (ap₂ at (eq-of-beq (p .negated) (q .negated) g) (eqb-true (p .variable) (q .variable) f)))
     go true false f g =
         omega (
           arith,
           e,
-          ap num (ap₂ (λ (n : Bool) (v : ℕ). flips n (α v)) (differ (p .negated) (q .negated) g) (sym (eqb-true (p .variable) (q .variable) f))),
+          ap num (ap₂ at (differ (p .negated) (q .negated) g) (sym (eqb-true (p .variable) (q .variable) f))),
           flip-number α (unfixed p),
           flip-number α r,
         )

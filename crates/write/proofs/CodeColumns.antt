@@ -162,7 +162,8 @@ module _ (l r c : ℕ) where
             let p : 2 ≤ r = omega (arith, lr) in
             let q : 2 ≤ c = omega (arith, lc) in
             by-counts (Two l r c) l (literal-of r ∷ literal-of c ∷ [])
-            (rw (bit-fixed l h, bit-literal r p, bit-literal c q) (fixed-first l (unfixed (literal-of r) ∷ unfixed (literal-of c) ∷ []) h refl))
+            (rw (bit-fixed l h, bit-literal r p, bit-literal c q)
+            (fixed-first l (unfixed (literal-of r) ∷ unfixed (literal-of c) ∷ []) h refl))
             (rw (bit-fixed l h, bit-literal r p, bit-literal c q)) (λ n. refl) (λ n. refl) (omega arith)
 
         pub right-fixed : r < 2 → seen (Two r l c)

@@ -12,14 +12,10 @@ mul-t14 c =
     record { fits = omega (arith, carry-opens-two (s .args .t) 2147483648 (c .before .i3 .given .1) (s .pre .2)) }
 
 mul-flipped : tie.Need-mul-flipped
-mul-flipped c =
-    let s = c .before .before .before .before .before in
-    record { fits = omega (arith, carry-opens-two (s .args .t) 2147483648 (c .before .before .before .i3 .given .1) (s .pre .2)) }
+mul-flipped c = record { fits = mul-t14 (c .before .before) .fits }
 
 add-t20 : tie.Need-add-t20
-add-t20 c =
-    let s = c .before .before .before .before .before .before in
-    record { fits = omega (arith, carry-opens-two (s .args .t) 2147483648 (c .before .before .before .before .i3 .given .1) (s .pre .2)) }
+add-t20 c = record { fits = omega (arith, mul-t14 (c .before .before .before) .fits) }
 
 mul-t21 : tie.Need-mul-t21
 mul-t21 c =
@@ -27,14 +23,10 @@ mul-t21 c =
     record { fits = omega (arith, carry-opens-three (s .args .t) 2147483648 (c .before .i4 .given .1) (s .pre .2)) }
 
 mul-t22 : tie.Need-mul-t22
-mul-t22 c =
-    let s = c .before .before .before in
-    record { fits = omega (arith, carry-opens-three (s .args .t) 2147483648 (c .before .i4 .given .1) (s .pre .2)) }
+mul-t22 c = record { fits = mul-t21 c .fits }
 
 add-t24 : tie.Need-add-t24
-add-t24 c =
-    let s = c .before .before .before in
-    record { fits = omega (arith, carry-opens-three (s .args .t) 2147483648 (c .before .i4 .given .1) (s .pre .2)) }
+add-t24 c = record { fits = omega (arith, mul-t21 c .fits) }
 
 returns : tie.Need-returns
 returns c = rw (c .before .i .given .1) (plain-is _ _ _ refl)

@@ -12,14 +12,10 @@ mul-t15 c =
     record { fits = omega (arith, sum-opens-two (s .args .z) 2147483648 (c .before .i3 .given .1) (s .pre .1)) }
 
 mul-flipped : tie.Need-mul-flipped
-mul-flipped c =
-    let s = c .before .before .before in
-    record { fits = omega (arith, sum-opens-two (s .args .z) 2147483648 (c .before .i3 .given .1) (s .pre .1)) }
+mul-flipped c = record { fits = mul-t15 c .fits }
 
 add-t19 : tie.Need-add-t19
-add-t19 c =
-    let s = c .before .before .before .before in
-    record { fits = omega (arith, sum-opens-two (s .args .z) 2147483648 (c .before .before .i3 .given .1) (s .pre .1)) }
+add-t19 c = record { fits = omega (arith, mul-t15 (c .before) .fits) }
 
 mul-t20 : tie.Need-mul-t20
 mul-t20 c =
@@ -27,14 +23,10 @@ mul-t20 c =
     record { fits = omega (arith, sum-opens-three (s .args .z) 2147483648 (c .before .i4 .given .1) (s .pre .1)) }
 
 mul-t21 : tie.Need-mul-t21
-mul-t21 c =
-    let s = c .before .before .before in
-    record { fits = omega (arith, sum-opens-three (s .args .z) 2147483648 (c .before .i4 .given .1) (s .pre .1)) }
+mul-t21 c = record { fits = mul-t20 c .fits }
 
 add-t23 : tie.Need-add-t23
-add-t23 c =
-    let s = c .before .before .before in
-    record { fits = omega (arith, sum-opens-three (s .args .z) 2147483648 (c .before .i4 .given .1) (s .pre .1)) }
+add-t23 c = record { fits = omega (arith, mul-t20 c .fits) }
 
 returns : tie.Need-returns
 returns c = rw (c .before .i .given .1) (plain-is _ _ _ refl)
