@@ -2,9 +2,10 @@
 //! the proofs compute. Only the numbers come from here; the table's layout is
 //! that of the definitions' own formatter.
 
+use crate::bad_lines;
 use crate::edges::{self, Call};
 use crate::passes::{self, Pass};
-use crate::{check, plan, print, write_plain, Counts};
+use crate::{check, plan, print, write_plain, Counts, Refusal};
 
 /// The chosen splits of all odd numbers of at most this many bits are printed.
 const TABLE_BITS: u32 = 9;
@@ -51,12 +52,26 @@ fn naturals(bytes: &[u8]) -> String {
 }
 
 fn integers(words: &[i32]) -> String {
-    list(words, |&word| if word < 0 { format!("negsuc {}", -(word + 1)) } else { format!("pos {word}") })
+    list(words, |&word| integer(word.into()))
+}
+
+fn integer(value: i64) -> String {
+    if value < 0 {
+        format!("negsuc {}", -(value + 1))
+    } else {
+        format!("pos {value}")
+    }
 }
 
 /// A refusal's number, or 0.
-fn number<T>(answer: &Result<T, u8>) -> u8 {
-    answer.as_ref().map_or_else(|number| *number, |_| 0)
+fn number<T>(answer: &Result<T, Refusal>) -> u8 {
+    Refusal::of(answer).number
+}
+
+/// All that a refusal tells, in the tables of calls that check lines.
+fn refusal<T>(answer: &Result<T, Refusal>) -> String {
+    let Refusal { number, line, value } = Refusal::of(answer);
+    format!("number = {number}; line = {line}; value = {}", integer(value))
 }
 
 fn work_room(bits: u32) -> Vec<u8> {
@@ -167,11 +182,13 @@ fn checked() -> Vec<String> {
         vec![0x20, 0x04, 0, 0, 4],
     ]
     .map(|recipe| (1, recipe));
-    let rows = whole.iter().chain(&broken).chain(&others).chain(&edges).chain(&twice);
-    rows.map(|(c, recipe)| {
-        format!("record {{ c = {c}; recipe = {}; number = {} }}", naturals(recipe), number(&check(*c, recipe)))
-    })
-    .collect()
+    let bad_lines = bad_lines::proposals();
+    let rows = whole.iter().chain(&broken).chain(&others).chain(&edges).chain(&twice).chain(&bad_lines);
+    rows.map(|(c, recipe)| checked_row(*c, recipe)).collect()
+}
+
+fn checked_row(c: u64, recipe: &[u8]) -> String {
+    format!("record {{ c = {c}; recipe = {}; {} }}", naturals(recipe), refusal(&check(c, recipe)))
 }
 
 /// A constant, a width and a recipe: planned ones, and ones with a line that
@@ -222,6 +239,7 @@ fn written() -> Vec<String> {
     let refused = [(0, 0, 3), (65_536, 3, 3), (3, 0, 5), (3, 17, 5), (3, 4_294_967_295, 3), (5, 2, 3), (3, 2, 3)];
     rows.extend(refused.map(|(c, w, planned)| written_row(c, w, &recipe_for(planned), 3, 51)));
     rows.push(written_row(3, 2, &damaged(3, 0), 3, 51));
+    rows.extend(bad_lines::writes().iter().map(|(w, (c, recipe))| written_row(*c, *w, recipe, 3, 51)));
     rows
 }
 
@@ -236,11 +254,11 @@ struct Writing<'a> {
     call: &'a Filling<'a>,
 }
 
-type Filling<'a> = dyn Fn(&mut [i32], &mut [i32]) -> Result<Counts, u8> + 'a;
+type Filling<'a> = dyn Fn(&mut [i32], &mut [i32]) -> Result<Counts, Refusal> + 'a;
 
 impl Writing<'_> {
     /// The answer and both rooms at exit.
-    fn done(&self) -> (Result<Counts, u8>, Vec<i32>, Vec<i32>) {
+    fn done(&self) -> (Result<Counts, Refusal>, Vec<i32>, Vec<i32>) {
         let (mut bit_room, mut clause_room) =
             (vec![i32::from(BEFORE); self.bits], vec![i32::from(BEFORE); self.clauses]);
         ((self.call)(&mut bit_room, &mut clause_room), bit_room, clause_room)
@@ -262,7 +280,7 @@ impl Writing<'_> {
             counts[2],
             integers(&bit_room[..counts[3]])
         );
-        format!("record {{ {}; number = {}; {shown} }}", self.arguments(), number(&answer))
+        format!("record {{ {}; {}; {shown} }}", self.arguments(), refusal(&answer))
     }
 
     fn rooms_row(&self) -> String {
@@ -362,19 +380,55 @@ mod tests {
     fn integers_at_both_ends() {
         let shown = "negsuc 2147483647 ∷ negsuc 0 ∷ pos 0 ∷ pos 2147483647 ∷ []";
         assert_eq!(integers(&[i32::MIN, -1, 0, i32::MAX]), shown);
+        assert_eq!([i64::MIN, i64::MAX].map(integer), ["negsuc 9223372036854775807", "pos 9223372036854775807"]);
+    }
+
+    #[test]
+    fn rows_of_checking() {
+        let shown = |c: u64, recipe: &[u8], rest: &str| {
+            assert_eq!(checked_row(c, recipe), format!("record {{ c = {c}; recipe = {}; {rest} }}", naturals(recipe)));
+        };
+        shown(6, &recipe_for(3), "number = 0; line = 0; value = pos 0");
+        shown(5, &recipe_for(3), "number = 8; line = 0; value = pos 0");
+        shown(3, &[recipe_for(3), damaged(3, 0)].concat(), "number = 4; line = 2; value = pos 0");
+        shown(3, &[0x60, 4, 0, 0, 3], "number = 7; line = 1; value = negsuc 0");
+        shown(3, &[0x20, 0x7C, 0, 0, 3], "number = 7; line = 1; value = pos 2147483649");
+    }
+
+    /// Without repeats, few enough to be computed, and with each rule of the lines broken in several of them.
+    #[test]
+    fn the_rows_of_checking_differ_and_meet_every_rule() {
+        let rows = checked();
+        let distinct: std::collections::BTreeSet<&String> = rows.iter().collect();
+        assert!(distinct.len() == rows.len() && rows.len() < 75, "{}", rows.len());
+        for number in 4..=7 {
+            let of_line =
+                |line: &u64| rows.iter().any(|row| row.contains(&format!("number = {number}; line = {line};")));
+            assert!((1..=3).filter(of_line).count() >= 2, "{number}");
+        }
+        let (least, largest) = ("negsuc 2251797666201598", "pos 2251797667250175");
+        let told = [(1, "pos 0"), (1, "negsuc 0"), (3, "negsuc 11"), (32, "pos 3"), (2, least), (2, largest)];
+        for (line, value) in told {
+            let ending = format!("; number = 7; line = {line}; value = {value} }}");
+            assert!(rows.iter().any(|row| row.ends_with(&ending)), "{line} {value}");
+        }
     }
 
     #[test]
     fn a_row_over_given_literals() {
         let call = Call { c: 6, w: 1, x: vec![-9], first: 12, recipe: recipe_for(3), bits: 3, clauses: 1 };
         let shown = "record { c = 6; w = 1; recipe = 32 ∷ 4 ∷ 0 ∷ 0 ∷ 3 ∷ []; bits = 3; clauses = 1; ";
-        let row = "number = 0; words-used = 0; clauses-written = 0; next = 12; y = pos 0 ∷ negsuc 8 ∷ negsuc 8 ∷ [] }";
+        let row = "number = 0; line = 0; value = pos 0; words-used = 0; clauses-written = 0; next = 12; ";
+        let y = "y = pos 0 ∷ negsuc 8 ∷ negsuc 8 ∷ [] }";
         let rooms = "bit-room = pos 0 ∷ negsuc 8 ∷ negsuc 8 ∷ []; clause-room = pos 7 ∷ [] }";
         let around = "record { x = negsuc 8 ∷ []; first = 12; call = ";
-        assert_eq!(given_row(&call), format!("{around}{shown}{row} }}"));
+        assert_eq!(given_row(&call), format!("{around}{shown}{row}{y} }}"));
         assert_eq!(given_rooms_row(&call), format!("{around}{shown}{rooms} }}"));
-        let refused = Call { first: 9, ..call };
-        assert!(given_row(&refused).ends_with("number = 14; words-used = 0; clauses-written = 0; next = 0; y = [] } }"));
+        let nothing = "words-used = 0; clauses-written = 0; next = 0; y = [] } }";
+        let bad_line = Call { recipe: vec![0x60, 4, 0, 0, 3], ..call };
+        assert!(given_row(&bad_line).ends_with(&format!("; number = 7; line = 1; value = negsuc 0; {nothing}")));
+        let refused = Call { first: 9, ..bad_line };
+        assert!(given_row(&refused).ends_with(&format!("; number = 14; line = 0; value = pos 0; {nothing}")));
     }
 
     /// Without repeats, and with every refusal that writing has beside the lines'.

@@ -3,7 +3,7 @@
 //! among the others. They are small, since the proofs compute them too.
 
 use crate::line::Line;
-use crate::{write, write_plain, Counts};
+use crate::{write, write_plain, Counts, Refusal};
 
 /// A call of writing over given literals, with the lengths of its rooms.
 #[derive(Clone)]
@@ -40,7 +40,7 @@ impl Call {
         self.in_rooms(bits, clauses)
     }
 
-    pub fn answer(&self, bits: &mut [i32], clauses: &mut [i32]) -> Result<Counts, u8> {
+    pub fn answer(&self, bits: &mut [i32], clauses: &mut [i32]) -> Result<Counts, Refusal> {
         write(self.c, self.w, &self.x, self.first, &self.recipe, bits, clauses)
     }
 }
@@ -56,8 +56,8 @@ pub const END: u32 = 1 << 31;
 const LARGEST: i32 = i32::MAX;
 
 /// A line as kind, left, s, right and claimed coefficient.
-type Fields = (u64, usize, u32, usize, u64);
-const THREE: Fields = (1, 0, 1, 0, 3);
+pub type Fields = (u64, usize, u32, usize, u64);
+pub const THREE: Fields = (1, 0, 1, 0, 3);
 const FIVE: Fields = (1, 0, 2, 0, 5);
 const SEVEN: Fields = (2, 0, 3, 0, 7);
 /// Document 01's other recipe for 5. At width 1 it opens nothing.
@@ -162,10 +162,12 @@ fn variables() -> Vec<Call> {
     ]
 }
 
-/// Each refusal and the next one in order, both with reason; last, one word too
-/// few where two inputs of one variable saved some.
+/// Each refusal and the next one in order, both with reason, where 14 tells
+/// nothing of a bad line; last, one word too few where two inputs of one variable
+/// saved some.
 fn order() -> Vec<Call> {
     let wrong = lines(&[(1, 0, 1, 0, 5)]);
+    let negative = lines(&[THREE, (3, 1, 1, 1, 5)]);
     let cut = [&wrong[..], &[0]].concat();
     vec![
         Call { c: 0, ..one(&[], 1) },
@@ -173,6 +175,8 @@ fn order() -> Vec<Call> {
         Call::exact(3, &[1, -1], 3, &cut),
         Call::exact(3, &[1, -2], 3, &cut),
         Call::exact(3, &[1, -2], 3, &wrong),
+        Call::exact(5, &[1, -1], 3, &negative),
+        Call::exact(5, &[1, -2], END, &negative),
         Call::exact(5, &[1, -2], END, &lines(&[THREE])),
         three(&[1, -2], END).in_rooms(3, 52),
         three(&[1, -2], END).in_rooms(4, 51),

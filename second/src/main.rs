@@ -3,10 +3,10 @@
 use std::io::{Read, Write};
 use std::process::ExitCode;
 
-use second::streams;
+use second::{streams, Refusal};
 
 const USAGE: &str = "usage: second plan C           lines of the planned recipe, and its bytes
-       second check C HEX      is HEX a recipe for C
+       second check C HEX      is HEX a recipe for C, and if not, which line is bad
        second write C W [HEX]  the file for HEX, or for the planned recipe
        second print            reads `C W` from standard input, writes the file
        second cases            worked cases, as the table that the proofs compute
@@ -56,7 +56,7 @@ fn recipe(hex: &str) -> Option<Vec<u8>> {
     Some(digits.chunks(2).map(|pair| (pair[0] * 16 + pair[1]) as u8).collect())
 }
 
-fn planned_recipe(c: u64) -> Result<Vec<u8>, u8> {
+fn planned_recipe(c: u64) -> Result<Vec<u8>, Refusal> {
     let mut room = vec![0; 160];
     let lines = second::plan(c, &mut vec![0; 1 << 15], &mut room)?;
     room.truncate(5 * lines);
@@ -66,7 +66,7 @@ fn planned_recipe(c: u64) -> Result<Vec<u8>, u8> {
 fn planned(c: u64) -> String {
     match planned_recipe(c) {
         Ok(recipe) => format!("{}\n{}", recipe.len() / 5, rows(&recipe)),
-        Err(number) => format!("refused {number}\n"),
+        Err(refusal) => format!("refused {}\n", refusal.number),
     }
 }
 
@@ -78,14 +78,23 @@ fn rows(recipe: &[u8]) -> String {
 fn checked(c: u64, recipe: &[u8]) -> String {
     match second::check(c, recipe) {
         Ok(()) => "accepted\n".to_string(),
-        Err(number) => format!("refused {number}\n"),
+        Err(refusal) => format!("refused {}{}\n", refusal.number, blamed(refusal, recipe)),
+    }
+}
+
+/// The line to blame with what it claims beside what it gives; where a refusal names no line there is nothing to add.
+fn blamed(Refusal { number, line, value }: Refusal, recipe: &[u8]) -> String {
+    match (number, second::claimed(recipe, line)) {
+        (_, None) => String::new(),
+        (7, Some(claimed)) => format!(": line {line} gives {value}, claims {claimed}"),
+        _ => format!(": line {line}"),
     }
 }
 
 fn written(c: u64, w: u64) -> Vec<u8> {
     match planned_recipe(c) {
         Ok(recipe) => second::print_recipe(c, w, &recipe),
-        Err(number) => format!("refused {number}\n").into_bytes(),
+        Err(refusal) => format!("refused {}\n", refusal.number).into_bytes(),
     }
 }
 

@@ -10,7 +10,7 @@ use crate::passes::{calls, clauses, product, reading_as, Pass};
 use crate::propagator::UNKNOWN;
 use crate::random::Random;
 use crate::streams::{bench_recipes, checksum, drawn_literals, either_sign, planned, Reader, MAX_CONSTANT};
-use crate::{check, propagate};
+use crate::{check, propagate, Refusal};
 
 /// Words of a drawn call that is small, and bytes of its room.
 const SMALL_WORDS: usize = 18;
@@ -244,7 +244,7 @@ fn line(reader: &mut Reader) -> Option<String> {
     let mut room = reader.take(room as usize)?.to_vec();
     let answer = propagate(&words, &given, allowance, &mut room);
     let sum = checksum(room.iter().map(|value| u32::from(*value)));
-    Some(format!("{} {} {sum}\n", answer.err().unwrap_or(0), answer.unwrap_or(0)))
+    Some(format!("{} {} {sum}\n", Refusal::of(&answer).number, answer.unwrap_or(0)))
 }
 
 pub fn propagation_answers(stream: &[u8]) -> Vec<u8> {

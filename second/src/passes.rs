@@ -5,7 +5,7 @@
 use crate::edges::needed;
 use crate::propagator::UNKNOWN;
 use crate::streams::planned;
-use crate::{propagate, write};
+use crate::{propagate, write, Refusal};
 
 /// A call of a pass, with the value room as it comes.
 #[derive(Clone)]
@@ -32,7 +32,7 @@ impl Pass {
     }
 
     /// The answer and the room at exit.
-    pub fn answer(&self) -> (Result<u64, u8>, Vec<u8>) {
+    pub fn answer(&self) -> (Result<u64, Refusal>, Vec<u8>) {
         let mut room = self.room.clone();
         (propagate(&self.words, &self.given, self.allowance, &mut room), room)
     }

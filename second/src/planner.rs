@@ -2,11 +2,11 @@
 
 use crate::line::{Line, LINE_BYTES};
 use crate::number::{bit_length, odd_part, zero_bits};
-use crate::refusal::{c_out_of_range, first_of, C_RANGE, RECIPE_ROOM, WORK_ROOM};
+use crate::refusal::{c_out_of_range, first_of, Refusal, C_RANGE, RECIPE_ROOM, WORK_ROOM};
 use crate::split::{chosen, recipe_set, work_byte};
 
 /// Plans a recipe for `c` into the two rooms; gives the number of lines.
-pub fn plan(c: u64, work: &mut [u8], recipe: &mut [u8]) -> Result<usize, u8> {
+pub fn plan(c: u64, work: &mut [u8], recipe: &mut [u8]) -> Result<usize, Refusal> {
     first_of(&[(C_RANGE, c_out_of_range(c))])?;
     let (d, _) = odd_part(c);
     let length = bit_length(d);

@@ -2,7 +2,7 @@
 
 use crate::line::{LINE_BYTES, MAX_LINES};
 use crate::planner::plan;
-use crate::refusal::INPUT;
+use crate::refusal::{Refusal, INPUT};
 use crate::writer::{write_plain, Counts};
 
 /// The work room for constants of 16 bits.
@@ -15,8 +15,8 @@ const CLAUSE_ROOM: usize = MAX_LINES * 36 * (8 * 5 + 6 * 4);
 
 /// The whole output of `mulcnf` for a whole standard input.
 pub fn print(input: &[u8]) -> Vec<u8> {
-    let file = parsed(input).and_then(|(c, w)| planned_file(c, w));
-    shown(file)
+    let asked = parsed(input).ok_or(Refusal::plain(INPUT));
+    shown(asked.and_then(|(c, w)| planned_file(c, w)))
 }
 
 /// The same output for a recipe given by the caller.
@@ -24,35 +24,32 @@ pub fn print_recipe(c: u64, w: u64, recipe: &[u8]) -> Vec<u8> {
     shown(file(c, w, recipe))
 }
 
-fn shown(file: Result<String, u8>) -> Vec<u8> {
-    file.unwrap_or_else(|number| format!("refused {number}\n")).into_bytes()
+fn shown(file: Result<String, Refusal>) -> Vec<u8> {
+    file.unwrap_or_else(|refusal| format!("refused {}\n", refusal.number)).into_bytes()
 }
 
 /// One to five digits, a space, one or two digits, a newline, nothing else.
-fn parsed(input: &[u8]) -> Result<(u64, u64), u8> {
-    let line = input.strip_suffix(b"\n").ok_or(INPUT)?;
+fn parsed(input: &[u8]) -> Option<(u64, u64)> {
+    let line = input.strip_suffix(b"\n")?;
     let words: Vec<&[u8]> = line.split(|byte| *byte == b' ').collect();
     match words[..] {
-        [c, w] => Ok((digits(c, 5)?, digits(w, 2)?)),
-        _ => Err(INPUT),
+        [c, w] => Some((digits(c, 5)?, digits(w, 2)?)),
+        _ => None,
     }
 }
 
-fn digits(word: &[u8], most: usize) -> Result<u64, u8> {
+fn digits(word: &[u8], most: usize) -> Option<u64> {
     let well_formed = (1..=most).contains(&word.len()) && word.iter().all(u8::is_ascii_digit);
-    if !well_formed {
-        return Err(INPUT);
-    }
-    Ok(word.iter().fold(0, |value, digit| value * 10 + u64::from(digit - b'0')))
+    well_formed.then(|| word.iter().fold(0, |value, digit| value * 10 + u64::from(digit - b'0')))
 }
 
-fn planned_file(c: u64, w: u64) -> Result<String, u8> {
+fn planned_file(c: u64, w: u64) -> Result<String, Refusal> {
     let mut recipe = [0; MAX_LINES * LINE_BYTES];
     let lines = plan(c, &mut vec![0; WORK_ROOM], &mut recipe)?;
     file(c, w, &recipe[..lines * LINE_BYTES])
 }
 
-fn file(c: u64, w: u64, recipe: &[u8]) -> Result<String, u8> {
+fn file(c: u64, w: u64, recipe: &[u8]) -> Result<String, Refusal> {
     let mut bits = [0; BIT_ROOM];
     let mut clauses = vec![0; CLAUSE_ROOM];
     let counts = write_plain(c, w, recipe, &mut bits, &mut clauses)?;

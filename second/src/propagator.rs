@@ -1,6 +1,6 @@
 //! One pass over words that believes only the clauses.
 
-use crate::refusal::{first_of, ALLOWANCE, CLAUSE, CONFLICT, VALUES};
+use crate::refusal::{first_of, Refusal, ALLOWANCE, CLAUSE, CONFLICT, VALUES};
 use std::collections::BTreeSet;
 
 pub const UNKNOWN: u8 = 2;
@@ -14,7 +14,7 @@ type Literals = BTreeSet<i64>;
 ///
 /// No values are kept while clauses are read, but the set of the literals that
 /// hold. The room hears of it at the end, so a refusal has nothing to undo.
-pub fn propagate(words: &[i32], given: &[i32], allowance: u64, room: &mut [u8]) -> Result<u64, u8> {
+pub fn propagate(words: &[i32], given: &[i32], allowance: u64, room: &mut [u8]) -> Result<u64, Refusal> {
     let known = room.iter().any(|value| *value != UNKNOWN);
     first_of(&[(VALUES, known), (VALUES, bad_given(given, room.len()))])?;
     let mut holding: Literals = given.iter().map(|literal| i64::from(*literal)).collect();

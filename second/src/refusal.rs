@@ -1,4 +1,4 @@
-//! Refusal numbers, and lists of refusal tests tried in order.
+//! What a refusal tells, refusal numbers, and lists of refusal tests tried in order.
 
 pub const C_RANGE: u8 = 1;
 pub const W_RANGE: u8 = 2;
@@ -25,10 +25,31 @@ pub const W_MAX: u64 = 16;
 /// The largest next free number: one past the largest variable that a word can name.
 pub const NEXT_MAX: u64 = 1 << 31;
 
-/// The number of the first test that speaks against going on.
-pub fn first_of(tests: &[(u8, bool)]) -> Result<(), u8> {
+/// A refusal by a line (4 to 7) has the line, counted from 1, and 7 also the
+/// value that the line really gives. Elsewhere each of the two is zero.
+#[derive(Clone, Copy, Debug, PartialEq, Eq)]
+pub struct Refusal {
+    pub number: u8,
+    pub line: u64,
+    pub value: i64,
+}
+
+impl Refusal {
+    /// One that no line is to blame for.
+    pub fn plain(number: u8) -> Refusal {
+        Refusal { number, line: 0, value: 0 }
+    }
+
+    /// An answer's refusal for tables and streams, where a success has zeros.
+    pub(crate) fn of<T>(answer: &Result<T, Refusal>) -> Refusal {
+        answer.as_ref().err().copied().unwrap_or(Refusal::plain(0))
+    }
+}
+
+/// The refusal by the first test that speaks against going on.
+pub fn first_of(tests: &[(u8, bool)]) -> Result<(), Refusal> {
     match tests.iter().find(|(_, refused)| *refused) {
-        Some((number, _)) => Err(*number),
+        Some((number, _)) => Err(Refusal::plain(*number)),
         None => Ok(()),
     }
 }

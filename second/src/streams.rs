@@ -1,11 +1,12 @@
 //! Calls as records on a byte stream, for programs to answer, and the answers
 //! that are right. A stream's records are given with each pair of functions.
 
-use crate::edges::{self, needed, Call, END};
-use crate::line::{Line, LINE_BYTES, MAX_LINES};
+use crate::bad_lines;
+use crate::edges::{self, needed, Call, Fields, END};
+use crate::line::{Line, LINE_BYTES, MAX_LINES, MINUSS};
 pub use crate::pass_stream::{propagation_answers, propagations};
 use crate::random::Random;
-use crate::{check, plan, write, write_plain};
+use crate::{check, plan, write, write_plain, Refusal};
 
 const MAX_COEFFICIENT: i64 = 1_048_575;
 pub(crate) const MAX_CONSTANT: u64 = 65_535;
@@ -89,6 +90,71 @@ fn turned_over(recipe: &mut [u8], random: &mut Random) {
     }
 }
 
+/// What can be changed in a line, over the coefficients of the operands before it: each of refusals 4 to 7 is met, and
+/// 7 with values of both signs and of any size.
+type Change = fn(&mut Line, &[u64], &mut Random);
+
+const CHANGES: [Change; 16] = [
+    |line, _, _| line.top = 1,
+    |line, _, _| line.kind = 0,
+    |line, _, random| line.kind = 1 + (line.kind + random.up_to(1)) % 3,
+    |line, _, random| line.s = random.up_to(31) as u32,
+    |line, _, random| (line.kind, line.s) = (MINUSS.code, random.up_to(3) as u32),
+    |line, _, random| (line.kind, line.s) = (MINUSS.code, random.up_to(31) as u32),
+    |line, earlier, random| line.left = random.up_to(earlier.len() as u64 - 1) as usize,
+    |line, earlier, random| line.right = random.up_to(earlier.len() as u64 - 1) as usize,
+    |line, earlier, random| line.left = not_earlier(earlier, random),
+    |line, earlier, random| line.right = not_earlier(earlier, random),
+    |line, _, _| line.claimed ^= 1,
+    |line, _, random| line.claimed = 2 * random.up_to(MAX_COEFFICIENT as u64 / 2),
+    |line, _, random| line.claimed = 2 * random.up_to(MAX_COEFFICIENT as u64 / 2) + 1,
+    |line, _, random| line.claimed ^= 2 << random.up_to(18),
+    as_far_as_it_fits,
+    as_far_as_it_fits,
+];
+
+/// The line itself, the next one, or any that is not there.
+fn not_earlier(earlier: &[u64], random: &mut Random) -> usize {
+    let itself = earlier.len() as u64;
+    let further = if random.one_in(2) { random.up_to(1) } else { random.up_to(63 - itself) };
+    (itself + further) as usize
+}
+
+/// Another shift, mostly one that gives more than a claim can be, with the lowest twenty bits of that as the claim.
+fn as_far_as_it_fits(line: &mut Line, earlier: &[u64], random: &mut Random) {
+    line.s = 1 + random.up_to(30) as u32;
+    // A line changed before may give nothing.
+    if let Some(value) = line.gives(earlier) {
+        line.claimed = value.rem_euclid(MAX_COEFFICIENT + 1) as u64;
+    }
+}
+
+/// Changes a line, counted from 0; those behind it stay as they are.
+fn change_line(recipe: &mut [u8], place: usize, random: &mut Random) {
+    let claims = recipe.chunks(LINE_BYTES).map(|bytes| Line::unpack(bytes).claimed);
+    let earlier: Vec<u64> = [1].into_iter().chain(claims.take(place)).collect();
+    let bytes = &mut recipe[LINE_BYTES * place..][..LINE_BYTES];
+    let mut line = Line::unpack(bytes);
+    CHANGES[random.up_to(CHANGES.len() as u64 - 1) as usize](&mut line, &earlier, random);
+    bytes.copy_from_slice(&line.pack());
+}
+
+/// A constant and a recipe for it with one line changed. The line is drawn first and then how many there are, so that
+/// the last ones are changed as often as any. Now and then it is changed twice, or another line too.
+fn with_bad_line(random: &mut Random) -> (u64, Vec<u8>) {
+    let last = MAX_LINES as u64 - 1;
+    let place = random.up_to(last);
+    let lines = place + 1 + random.up_to(last - place);
+    let (d, mut recipe) = walk(lines as usize, ANY_SHIFTS, random);
+    change_line(&mut recipe, place as usize, random);
+    match random.up_to(7) {
+        0 => change_line(&mut recipe, place as usize, random),
+        1 => change_line(&mut recipe, random.up_to(lines - 1) as usize, random),
+        _ => {}
+    }
+    (with_odd_part(d, random), recipe)
+}
+
 /// Any constant of 32 bits, most of them in range.
 fn any_constant(random: &mut Random) -> u64 {
     match random.up_to(9) {
@@ -105,17 +171,18 @@ fn proposed(round: usize, random: &mut Random) -> (u64, Vec<u8>) {
         return (any_constant(random), random.bytes(round));
     }
     let (mut c, mut recipe) = right(random);
-    match random.up_to(9) {
+    match random.up_to(12) {
         0..=4 => {}
         5..=6 => turned_over(&mut recipe, random),
         7 => c = any_constant(random),
         8 => recipe = lines_at_random(random),
-        _ => {
+        9 => {
             recipe = {
                 let length = random.up_to(170) as usize;
                 random.bytes(length)
             }
         }
+        _ => (c, recipe) = with_bad_line(random),
     }
     (c, recipe)
 }
@@ -135,7 +202,6 @@ fn lines_at_random(random: &mut Random) -> Vec<u8> {
 
 /// Document 01's own recipes: a constant and lines of kind, left, s, right and claimed coefficient.
 pub(crate) fn bench_recipes() -> Vec<(u64, Vec<u8>)> {
-    type Fields = (u64, usize, u32, usize, u64);
     let rows: [(u64, &[Fields]); 14] = [
         (59, &[(2, 0, 6, 0, 63), (3, 1, 2, 0, 59)]),
         (1965, &[(1, 0, 1, 0, 3), (1, 0, 7, 1, 131), (2, 2, 4, 2, 1965)]),
@@ -152,16 +218,16 @@ pub(crate) fn bench_recipes() -> Vec<(u64, Vec<u8>)> {
         (65_535, &[(2, 0, 16, 0, 65_535)]),
         (65_536, &[(2, 0, 16, 0, 65_535)]),
     ];
-    let line = |&(kind, left, s, right, claimed): &Fields| Line { top: 0, kind, left, s, right, claimed }.pack();
-    rows.iter().map(|(c, lines)| (*c, lines.iter().flat_map(line).collect())).collect()
+    rows.iter().map(|(c, lines)| (*c, edges::lines(lines))).collect()
 }
 
-// ---- checking: c (4 bytes, most significant first), the recipe's length (1), the recipe. The answer is a letter, A for
-// accepted, B for refusal 1 and so on; a newline after every 64 and at the end of a last row that is shorter.
+// ---- checking: c (4 bytes, most significant first), the recipe's length (1), the recipe. The answer is a line: the
+// refusal's number or 0, the line and the value that it tells.
 
 pub fn recipes(seed: u64, count: usize) -> Vec<u8> {
     let mut random = Random::seeded(seed);
     let mut cases = bench_recipes();
+    cases.extend(bad_lines::proposals());
     cases.extend((0..count).map(|round| proposed(round, &mut random)));
     let mut stream = Vec::new();
     for (c, recipe) in cases {
@@ -179,18 +245,21 @@ fn recipe_record<'a>(reader: &mut Reader<'a>) -> Option<(u64, &'a [u8])> {
 
 pub fn recipe_answers(stream: &[u8]) -> Vec<u8> {
     let mut reader = Reader(stream);
-    let mut letters = Vec::new();
-    while let Some((c, recipe)) = recipe_record(&mut reader) {
-        letters.push(b'A' + check(c, recipe).err().unwrap_or(0));
-    }
-    letters.chunks(64).flat_map(|row| [row, b"\n"].concat()).collect()
+    let records = std::iter::from_fn(|| recipe_record(&mut reader));
+    records.map(|(c, recipe)| told(&check(c, recipe)) + "\n").collect::<String>().into_bytes()
 }
 
-// ---- writing: the call (1 byte: 0 document 01's, 1 the one over given literals), c (4), w (1), the number of literals (1), at
-// most 40, the first free number (4), the lengths of the recipe (1), of the bit room (1) and of the clause room (2), the
-// literals (4 each, two's complement), the recipe. Document 01's call has no literals and the first free number 0. The answer is
-// a line: the refusal's number or 0, words, clauses, next free number, bits of y, and a checksum of both rooms at exit, every
-// entry of which was 7.
+/// The front of an answer to a call that checks lines.
+fn told<T>(answer: &Result<T, Refusal>) -> String {
+    let Refusal { number, line, value } = Refusal::of(answer);
+    format!("{number} {line} {value}")
+}
+
+// ---- writing: the call (1 byte: 0 document 01's, 1 the one over given literals), c (4), w (1), the number of literals
+// (1), at most 40, the first free number (4), the lengths of the recipe (1), of the bit room (1) and of the clause room
+// (2), the literals (4 each, two's complement), the recipe. Document 01's call has no literals and the first free
+// number 0. The answer is a line: the refusal's number or 0, the line and the value that it tells, words, clauses, next
+// free number, bits of y, and a checksum of both rooms at exit, every entry of which was 7.
 
 const PLAIN: u8 = 0;
 const GIVEN: u8 = 1;
@@ -235,7 +304,11 @@ fn narrow(random: &mut Random) -> (u64, u64, Vec<u8>) {
 
 fn write_case(round: usize, random: &mut Random) -> (u64, u64, Vec<u8>) {
     let (c, w, recipe) = right_at_width(random);
-    let (c, recipe) = if random.one_in(12) { proposed(round, random) } else { (c, recipe) };
+    let (c, recipe) = match random.up_to(11) {
+        0 => proposed(round, random),
+        1..=3 => with_bad_line(random),
+        _ => (c, recipe),
+    };
     (c, if random.one_in(40) { random.up_to(255) } else { w }, recipe)
 }
 
@@ -244,7 +317,7 @@ fn plain(c: u64, w: u64, recipe: Vec<u8>, (bits, clauses): (usize, usize)) -> Ca
     Call { c, w, x: Vec::new(), first: 0, recipe, bits, clauses }
 }
 
-/// Document 01's recipes at widths 1 to 4 and 16 in long rooms, and its rooms that are one too short.
+/// Document 01's recipes at widths 1 to 4 and 16 in long rooms, its rooms that are one too short, and bad lines.
 fn bench_writes() -> Vec<Call> {
     let mut calls = Vec::new();
     for (c, recipe) in bench_recipes() {
@@ -253,6 +326,7 @@ fn bench_writes() -> Vec<Call> {
     let three = planned(3);
     calls.extend([(4, 52), (4, 51), (3, 52), (3, 51)].map(|rooms| plain(3, 2, three.clone(), rooms)));
     calls.extend([(5, 2), (7, 1), (6, 2), (53, 8)].map(|(c, w)| plain(c, w, planned(c), (20, 2_000))));
+    calls.extend(bad_lines::proposals().into_iter().map(|(c, recipe)| plain(c, 2, recipe, (20, 2_000))));
     calls
 }
 
@@ -330,7 +404,7 @@ fn right_call(random: &mut Random) -> Call {
 /// What can be spoiled in a call, each for another refusal; two spoilings of one call show which refusal is tested first.
 type Spoiling = fn(&mut Call, &mut Random);
 
-const SPOILINGS: [Spoiling; 14] = [
+const SPOILINGS: [Spoiling; 17] = [
     |call, random| call.c = any_constant(random),
     |call, random| call.w = [0, 17, random.up_to(255), 1 + random.up_to(15)][random.up_to(3) as usize],
     spoiled_literal,
@@ -343,6 +417,9 @@ const SPOILINGS: [Spoiling; 14] = [
         _ => call.recipe.push(32),
     },
     |call, random| turned_over(&mut call.recipe, random),
+    bad_line,
+    bad_line,
+    bad_line,
     |call, random| call.recipe = right(random).1,
     |call, random| call.first = END - opened(call.c, call.w, &call.recipe) + 1 + random.up_to(2) as u32,
     |call, random| {
@@ -356,6 +433,10 @@ const SPOILINGS: [Spoiling; 14] = [
 fn shortened(call: &Call) -> (usize, usize) {
     let less = |length: usize| length.saturating_sub(1).min(65_535);
     needed(call.c, call.w, &call.recipe).map_or((0, 0), |counts| (less(counts.bits), less(counts.words)))
+}
+
+fn bad_line(call: &mut Call, random: &mut Random) {
+    (call.c, call.recipe) = with_bad_line(random);
 }
 
 /// A 0, a variable that is not below the first free number, the lowest word, or a literal too many or too few.
@@ -433,10 +514,10 @@ fn write_line(reader: &mut Reader) -> Option<String> {
         PLAIN => write_plain(c, w, recipe, &mut bits, &mut clauses),
         _ => write(c, w, &x, first, recipe, &mut bits, &mut clauses),
     };
-    let number = answer.as_ref().err().map_or(0, |number| *number);
+    let told = told(&answer);
     let counts = answer.map_or([0; 4], |counts| [counts.words, counts.clauses, counts.next as usize, counts.bits]);
     let sum = checksum(bits.iter().chain(&clauses).map(|entry| *entry as u32));
-    Some(format!("{number} {} {} {} {} {sum}\n", counts[0], counts[1], counts[2], counts[3]))
+    Some(format!("{told} {} {} {} {} {sum}\n", counts[0], counts[1], counts[2], counts[3]))
 }
 
 pub fn write_answers(stream: &[u8]) -> Vec<u8> {
@@ -484,7 +565,7 @@ fn plan_bytes(reader: &mut Reader) -> Option<Vec<u8>> {
     let (mut work, mut recipe) = (vec![7; work as usize], vec![7; recipe as usize]);
     let answer = plan(c, &mut work, &mut recipe);
     let sum = checksum(work.iter().chain(&recipe).map(|byte| u32::from(*byte)));
-    let mut bytes = vec![answer.err().unwrap_or(0), answer.unwrap_or(0) as u8];
+    let mut bytes = vec![Refusal::of(&answer).number, answer.unwrap_or(0) as u8];
     bytes.extend(sum.to_be_bytes());
     if show == 1 {
         bytes.extend(work);

@@ -33,7 +33,7 @@ pub fn write(
     recipe: &[u8],
     bits: &mut [i32],
     clauses: &mut [i32],
-) -> Result<Counts, u8> {
+) -> Result<Counts, Refusal> {
     first_of(&[
         (C_RANGE, c_out_of_range(c)),
         (W_RANGE, w_out_of_range(w)),
@@ -61,7 +61,7 @@ pub fn write(
 
 /// The call of document 01: the literals 1 to w, and w + 1 is free. A width
 /// out of range is refused before the literals are looked at.
-pub fn write_plain(c: u64, w: u64, recipe: &[u8], bits: &mut [i32], clauses: &mut [i32]) -> Result<Counts, u8> {
+pub fn write_plain(c: u64, w: u64, recipe: &[u8], bits: &mut [i32], clauses: &mut [i32]) -> Result<Counts, Refusal> {
     let x: Vec<i32> = (1..).take(w.min(W_MAX) as usize).collect();
     write(c, w, &x, x.len() as u32 + 1, recipe, bits, clauses)
 }

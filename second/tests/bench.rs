@@ -25,8 +25,8 @@ fn plan_for_53() {
 #[test]
 fn rooms_of_53() {
     assert_eq!(second::plan(53, &mut [0; 32], &mut [0; 15]), Ok(3));
-    assert_eq!(second::plan(53, &mut [0; 32], &mut [0; 14]), Err(12));
-    assert_eq!(second::plan(53, &mut [0; 31], &mut [0; 15]), Err(11));
+    assert_eq!(numbered(second::plan(53, &mut [0; 32], &mut [0; 14])), Err(12));
+    assert_eq!(numbered(second::plan(53, &mut [0; 31], &mut [0; 15])), Err(11));
 }
 
 #[test]
@@ -44,7 +44,7 @@ fn plan_for_1() {
 fn recipe_63_59() {
     let recipe = [0x40, 0x18, 0, 0, 0x3F, 0x60, 0x88, 0, 0, 0x3B];
     assert_eq!(recipe, recipe_of(&[(SMINUS, 0, 6, 0, 63), (MINUSS, 1, 2, 0, 59)])[..]);
-    assert_eq!(second::check(59, &recipe), Ok(()));
+    assert_eq!(check(59, &recipe), Ok(()));
 }
 
 #[test]
@@ -79,7 +79,7 @@ fn rooms_of_3_at_2() {
     let recipe = planned(3);
     let with_rooms = |bits: usize, words: usize| {
         let counts = second::write_plain(3, 2, &recipe, &mut vec![0; bits], &mut vec![0; words]);
-        counts.map(|counts| (counts.bits, counts.words))
+        numbered(counts).map(|counts| (counts.bits, counts.words))
     };
     assert_eq!(with_rooms(4, 52), Ok((4, 52)));
     assert_eq!(with_rooms(4, 51), Err(10));
@@ -89,19 +89,19 @@ fn rooms_of_3_at_2() {
 #[test]
 fn recipe_3_131_1965() {
     let lines = [(SPLUS, 0, 1, 0, 3), (SPLUS, 0, 7, 1, 131), (SMINUS, 2, 4, 2, 1965)];
-    assert_eq!(second::check(1965, &recipe_of(&lines)), Ok(()));
+    assert_eq!(check(1965, &recipe_of(&lines)), Ok(()));
 }
 
 #[test]
 fn misprint_for_2047() {
-    assert_eq!(second::check(2047, &line(SPLUS, 0, 11, 0, 2047)), Err(7));
+    assert_eq!(check(2047, &line(SPLUS, 0, 11, 0, 2047)), Err(7));
 }
 
 #[test]
 fn misprint_for_49() {
     let lines = [(SMINUS, 0, 4, 0, 15), (SPLUS, 0, 6, 1, 49)];
-    assert_eq!(second::check(15, &recipe_of(&lines[..1])), Ok(()));
-    assert_eq!(second::check(49, &recipe_of(&lines)), Err(7));
+    assert_eq!(check(15, &recipe_of(&lines[..1])), Ok(()));
+    assert_eq!(check(49, &recipe_of(&lines)), Err(7));
 }
 
 fn recipes_for_117() -> [Vec<u8>; 3] {
@@ -115,7 +115,7 @@ fn recipes_for_117() -> [Vec<u8>; 3] {
 #[test]
 fn recipes_for_117_are_accepted() {
     for recipe in recipes_for_117() {
-        assert_eq!(second::check(117, &recipe), Ok(()));
+        assert_eq!(check(117, &recipe), Ok(()));
         let written = written(117, 4, &recipe);
         (0..16).for_each(|x| assert_propagates(117, &written, x));
     }
@@ -164,24 +164,24 @@ fn the_largest_c_and_w_pass() {
 fn c_65_536_and_w_17_are_refused() {
     let recipe = planned(65_535);
     let mut rooms = (vec![0; 40], vec![0; WORDS]);
-    assert_eq!(second::write_plain(65_536, 16, &recipe, &mut rooms.0, &mut rooms.1), Err(1));
-    assert_eq!(second::write_plain(65_535, 17, &recipe, &mut rooms.0, &mut rooms.1), Err(2));
-    assert_eq!(second::plan(65_536, &mut [0; 1 << 16], &mut [0; 160]), Err(1));
-    assert_eq!(second::check(65_536, &recipe), Err(1));
+    assert_eq!(numbered(second::write_plain(65_536, 16, &recipe, &mut rooms.0, &mut rooms.1)), Err(1));
+    assert_eq!(numbered(second::write_plain(65_535, 17, &recipe, &mut rooms.0, &mut rooms.1)), Err(2));
+    assert_eq!(numbered(second::plan(65_536, &mut [0; 1 << 16], &mut [0; 160])), Err(1));
+    assert_eq!(check(65_536, &recipe), Err(1));
 }
 
 #[test]
 fn recipe_bytes_160_pass_and_165_do_not() {
     let three = line(SPLUS, 0, 1, 0, 3);
-    assert_eq!(second::check(3, &three.repeat(32)), Ok(()));
-    assert_eq!(second::check(3, &three.repeat(33)), Err(3));
+    assert_eq!(check(3, &three.repeat(32)), Ok(()));
+    assert_eq!(check(3, &three.repeat(33)), Err(3));
 }
 
 #[test]
 fn a_line_of_twenty_ones_is_accepted() {
     let lines = [(SMINUS, 0, 20, 0, 1_048_575), (SPLUS, 0, 1, 0, 3)];
-    assert_eq!(second::check(3, &recipe_of(&lines)), Ok(()));
-    assert_eq!(second::check(3, &recipe_of(&lines[..1])), Err(8));
+    assert_eq!(check(3, &recipe_of(&lines)), Ok(()));
+    assert_eq!(check(3, &recipe_of(&lines[..1])), Err(8));
     for w in 1..=4 {
         let written = written(3, w, &recipe_of(&lines));
         (0..1 << w).for_each(|x| assert_propagates(3, &written, x));

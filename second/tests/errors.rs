@@ -42,9 +42,9 @@ fn minuss_of_53_at_1_starts_from_63() {
         let bits = bit_length(left) as u64;
         recipe_of(&[(SMINUS, 0, bits, 0, left), (SPLUS, 0, 2, 0, 5), (MINUSS, 1, 1, 2, claimed)])
     };
-    assert_eq!(second::check(53, &ending_with(63, 53)), Ok(()));
-    assert_eq!(second::check(53, &ending_with(31, 53)), Err(7));
-    assert_eq!(second::check(21, &ending_with(31, 21)), Ok(()));
+    assert_eq!(check(53, &ending_with(63, 53)), Ok(()));
+    assert_eq!(check(53, &ending_with(31, 53)), Err(7));
+    assert_eq!(check(21, &ending_with(31, 21)), Ok(()));
 }
 
 /// 51 = 3 * 16 + 3 is two lines, 3 being one coefficient; every other split

@@ -28,7 +28,7 @@ impl Call {
     fn answer(&self) -> Result<second::Counts, u8> {
         let Call { c, w, x, first, recipe, .. } = self;
         let (mut bits, mut clauses) = (vec![MARK; self.bits], vec![MARK; self.clauses]);
-        let answer = second::write(*c, *w, x, *first, recipe, &mut bits, &mut clauses);
+        let answer = numbered(second::write(*c, *w, x, *first, recipe, &mut bits, &mut clauses));
         let (y, words) = answer.map_or((0, 0), |counts| (counts.bits, counts.words));
         assert!(bits[y..].iter().chain(&clauses[words..]).all(|word| *word == MARK), "{self:?}: a room was changed");
         assert!(!bits[..y].contains(&MARK) && !clauses[..words].contains(&MARK), "{self:?}: a room was not filled");
@@ -233,7 +233,7 @@ fn the_order_around_14_and_15() {
 }
 
 /// Both calls in marked rooms of these lengths: the answers and the rooms.
-type Both = [(Result<second::Counts, u8>, Vec<i32>, Vec<i32>); 2];
+type Both = [(Result<second::Counts, second::Refusal>, Vec<i32>, Vec<i32>); 2];
 
 fn both(c: u64, w: u64, recipe: &[u8], bits: usize, clauses: usize) -> Both {
     let x = plain(w.min(20));
@@ -263,7 +263,7 @@ fn the_old_call_is_the_case_1_to_w() {
         let w = random.up_to(18);
         let [old, given] = both(c, w, &recipe, random.up_to(40) as usize, random.up_to(9_000) as usize);
         assert_eq!(old, given, "{c} {w} {recipe:?}");
-        met[usize::from(old.0.err().unwrap_or(0))] += 1;
+        met[usize::from(numbered(old.0).err().unwrap_or(0))] += 1;
     }
     println!("refusals met: {met:?}");
     assert!([0, 1, 2, 3, 8, 9, 10].iter().all(|number| met[*number] > 20), "{met:?}");
@@ -273,7 +273,7 @@ fn the_old_call_is_the_case_1_to_w() {
 #[test]
 fn the_old_call_takes_any_width() {
     for w in [0, 17, 1 << 31, (1 << 32) + 2, u64::MAX] {
-        let answers = both(3, w, &planned(3), 40, 100).map(|answer| answer.0);
+        let answers = both(3, w, &planned(3), 40, 100).map(|answer| numbered(answer.0));
         assert_eq!(answers, [Err(2), Err(2)], "{w}");
     }
 }

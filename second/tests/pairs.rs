@@ -59,7 +59,7 @@ fn width_1_opens_nothing() {
 #[test]
 fn rooms_of_15_at_2() {
     let recipe = recipe_of(&[(SPLUS, 0, 2, 0, 5), (SMINUS, 1, 2, 1, 15)]);
-    let with_words = |words: usize| second::write_plain(15, 2, &recipe, &mut [0; 6], &mut vec![0; words]);
+    let with_words = |words: usize| numbered(second::write_plain(15, 2, &recipe, &mut [0; 6], &mut vec![0; words]));
     assert_eq!(with_words(68), Ok(second::Counts { words: 68, clauses: 18, next: 8, bits: 6 }));
     assert_eq!(with_words(67), Err(10));
     assert_eq!(written(15, 2, &recipe).bits, [1, 3, -4, -4, 5, 7]);
@@ -72,8 +72,10 @@ fn rooms_of_5_at_1() {
     let mut bits = [0; 3];
     let end = 2_147_483_648;
     let counts = second::Counts { words: 0, clauses: 0, next: end, bits: 3 };
-    assert_eq!(second::write(5, 1, &[-i32::MAX], end, &recipe, &mut bits, &mut []), Ok(counts));
+    let from =
+        |first: u32, bits: &mut [i32]| numbered(second::write(5, 1, &[-i32::MAX], first, &recipe, bits, &mut []));
+    assert_eq!(from(end, &mut bits), Ok(counts));
     assert_eq!(bits, [-i32::MAX, 0, -i32::MAX]);
-    assert_eq!(second::write(5, 1, &[-i32::MAX], end, &recipe, &mut bits[..2], &mut []), Err(9));
-    assert_eq!(second::write(5, 1, &[-i32::MAX], end + 1, &recipe, &mut bits, &mut []), Err(15));
+    assert_eq!(from(end, &mut bits[..2]), Err(9));
+    assert_eq!(from(end + 1, &mut bits), Err(15));
 }

@@ -47,7 +47,7 @@ fn records(mut stream: &[u8]) -> Vec<Record> {
 /// The answer and the room at exit.
 fn answer(record: &Record) -> (Result<u64, u8>, Vec<u8>) {
     let mut room = record.room.clone();
-    (second::propagate(&record.words, &record.given, record.allowance, &mut room), room)
+    (numbered(second::propagate(&record.words, &record.given, record.allowance, &mut room)), room)
 }
 
 fn refusal(record: &Record) -> u8 {

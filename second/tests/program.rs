@@ -39,6 +39,23 @@ fn check() {
     assert_eq!(output(&["check", "61", "401800003F608800003B"]), "refused 8\n");
 }
 
+/// 3, then 131, then 131 * 16 - 131; one line of it changed.
+#[test]
+fn check_tells_the_bad_line() {
+    let checked = |lines: &str| output(&["check", "1965", lines]);
+    assert_eq!(checked("2004000003 201C100083 41102007AD"), "accepted\n");
+    assert_eq!(checked("2004000003 A01C100083 41102007AD"), "refused 4: line 2\n");
+    assert_eq!(checked("2004000003 001C100083 41102007AD"), "refused 4: line 2\n");
+    assert_eq!(checked("2004000003 201C200083 41102007AD"), "refused 5: line 2\n");
+    assert_eq!(checked("2004000003 201C100083 41102007AC"), "refused 6: line 3\n");
+    assert_eq!(checked("2004000005 201C100083 41102007AD"), "refused 7: line 1 gives 3, claims 5\n");
+    assert_eq!(checked("2004000003 401000000F 40802007AD"), "refused 7: line 3 gives -12, claims 1965\n");
+    assert_eq!(checked("40500FFFFF 607C100001"), "refused 7: line 2 gives -2251797666201599, claims 1\n");
+    assert_eq!(checked("40500FFFFF 20FC1FFFFF"), "refused 7: line 2 gives 2251797667250175, claims 1048575\n");
+    assert_eq!(output(&["check", "0", "2004000005"]), "refused 1\n");
+    assert_eq!(output(&["write", "3", "2", "2004000005"]), "refused 7\n");
+}
+
 #[test]
 fn write() {
     let file = String::from_utf8(second::print(b"3 2\n")).unwrap();

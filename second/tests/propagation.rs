@@ -24,7 +24,7 @@ impl Call {
     /// The answer and the room at exit; a refusal must leave the room as it came.
     fn done(&self) -> (Result<u64, u8>, Vec<u8>) {
         let mut room = self.room.clone();
-        let answer = second::propagate(&self.words, &self.given, self.allowance, &mut room);
+        let answer = numbered(second::propagate(&self.words, &self.given, self.allowance, &mut room));
         assert!(answer.is_ok() || room == self.room, "{self:?}: the room was changed");
         (answer, room)
     }

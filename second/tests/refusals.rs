@@ -9,7 +9,7 @@ const MARK_WORD: i32 = -559_038_737;
 /// Plans in marked rooms; a refusal must leave every mark.
 fn plan_in(c: u64, work_room: usize, recipe_room: usize) -> Result<usize, u8> {
     let (mut work, mut recipe) = (vec![MARK; work_room], vec![MARK; recipe_room]);
-    let answer = second::plan(c, &mut work, &mut recipe);
+    let answer = numbered(second::plan(c, &mut work, &mut recipe));
     if answer.is_err() {
         assert!(work.iter().chain(&recipe).all(|byte| *byte == MARK), "{c}: a refusal changed a room");
     }
@@ -19,7 +19,7 @@ fn plan_in(c: u64, work_room: usize, recipe_room: usize) -> Result<usize, u8> {
 /// Writes in marked rooms; a refusal must leave every mark.
 fn write_in(c: u64, w: u64, recipe: &[u8], bit_room: usize, clause_room: usize) -> Result<second::Counts, u8> {
     let (mut bits, mut room) = (vec![MARK_WORD; bit_room], vec![MARK_WORD; clause_room]);
-    let answer = second::write_plain(c, w, recipe, &mut bits, &mut room);
+    let answer = numbered(second::write_plain(c, w, recipe, &mut bits, &mut room));
     if answer.is_err() {
         assert!(bits.iter().chain(&room).all(|word| *word == MARK_WORD), "{c} {w}: a refusal changed a room");
     }
@@ -37,12 +37,12 @@ const OUT_OF_RANGE: [u64; 5] = [0, 65_536, 1 << 32, (1 << 32) + 1, u64::MAX];
 fn refusal_1() {
     for c in OUT_OF_RANGE {
         assert_eq!(plan_in(c, 1 << 16, 160), Err(1));
-        assert_eq!(second::check(c, &[]), Err(1));
+        assert_eq!(check(c, &[]), Err(1));
         assert_eq!(refused(c, 4, &[]), Some(1));
     }
     for c in [1, 65_535] {
         assert!(plan_in(c, 1 << 15, 40).is_ok());
-        assert_eq!(second::check(c, &planned(c)), Ok(()));
+        assert_eq!(check(c, &planned(c)), Ok(()));
         assert_eq!(refused(c, 4, &planned(c)), None);
     }
 }
@@ -67,7 +67,7 @@ fn refusal_3() {
             _ if length % 5 != 0 || length > 160 => Some(3),
             _ => None,
         };
-        assert_eq!(second::check(3, &recipe[..length]).err(), expected, "{length}");
+        assert_eq!(check(3, &recipe[..length]).err(), expected, "{length}");
         assert_eq!(refused(3, 2, &recipe[..length]), expected, "{length}");
     }
 }
@@ -75,7 +75,7 @@ fn refusal_3() {
 /// Checks and writes a recipe for 3 and gives the one refusal of both.
 fn refused_for_3(lines: &[Vec<u8>]) -> Option<u8> {
     let recipe = lines.concat();
-    let checked = second::check(3, &recipe).err();
+    let checked = check(3, &recipe).err();
     assert_eq!(refused(3, 2, &recipe), checked);
     checked
 }
@@ -149,19 +149,19 @@ fn refusal_7() {
 fn refusal_8() {
     let (empty, three) = (vec![], three());
     for t in 0..16 {
-        assert_eq!(second::check(1 << t, &empty), Ok(()));
-        assert_eq!(second::check(1 << t, &three), Err(8));
+        assert_eq!(check(1 << t, &empty), Ok(()));
+        assert_eq!(check(1 << t, &three), Err(8));
         assert_eq!(refused(1 << t, 2, &three), Some(8));
     }
     for t in 0..15 {
-        assert_eq!(second::check(3 << t, &three), Ok(()));
-        assert_eq!(second::check(3 << t, &empty), Err(8));
+        assert_eq!(check(3 << t, &three), Ok(()));
+        assert_eq!(check(3 << t, &empty), Err(8));
         assert_eq!(refused(3 << t, 2, &empty), Some(8));
     }
-    assert_eq!(second::check(5, &three), Err(8));
+    assert_eq!(check(5, &three), Err(8));
     let five_last = [three.clone(), line(SPLUS, 0, 2, 0, 5)].concat();
-    assert_eq!(second::check(3, &five_last), Err(8));
-    assert_eq!(second::check(5, &five_last), Ok(()));
+    assert_eq!(check(3, &five_last), Err(8));
+    assert_eq!(check(5, &five_last), Ok(()));
 }
 
 const SOME_C: [u64; 14] = [1, 2, 3, 6, 7, 53, 59, 117, 255, 1965, 4096, 43_690, 54_321, 65_535];
@@ -283,11 +283,11 @@ fn order_of_writing() {
 
 #[test]
 fn order_of_checking_and_planning() {
-    assert_eq!(second::check(0, &[0; 4]), Err(1));
-    assert_eq!(second::check(5, &[0; 4]), Err(3));
-    assert_eq!(second::check(5, &[0; 165]), Err(3));
-    assert_eq!(second::check(5, &[0; 160]), Err(4));
-    assert_eq!(second::check(5, &three()), Err(8));
+    assert_eq!(check(0, &[0; 4]), Err(1));
+    assert_eq!(check(5, &[0; 4]), Err(3));
+    assert_eq!(check(5, &[0; 165]), Err(3));
+    assert_eq!(check(5, &[0; 160]), Err(4));
+    assert_eq!(check(5, &three()), Err(8));
     assert_eq!(plan_in(0, 0, 0), Err(1));
     assert_eq!(plan_in(65_535, 0, 0), Err(11));
     assert_eq!(plan_in(65_535, 1 << 15, 0), Err(12));
@@ -338,7 +338,7 @@ fn changed_recipes_are_met_without_panic() {
             let place = random.up_to(8 * recipe.len() as u64 - 1) as usize;
             recipe[place / 8] ^= 1 << (place % 8);
         }
-        let checked = second::check(c, &recipe);
+        let checked = check(c, &recipe);
         let (bit_room, clause_room) = (random.up_to(40) as usize, random.up_to(2000) as usize);
         let written = write_in(c, random.up_to(18), &recipe, bit_room, clause_room);
         let number = written.err().unwrap_or(0);
@@ -355,7 +355,7 @@ fn arguments_of_any_kind_are_met_without_panic() {
     for _ in 0..20_000 {
         let (c, w) = (random.next() >> random.up_to(63), random.next() >> random.up_to(63));
         let recipe: Vec<u8> = (0..random.up_to(170)).map(|_| random.next() as u8).collect();
-        let _ = second::check(c, &recipe);
+        let _ = check(c, &recipe);
         let _ = write_in(c, w, &recipe, random.up_to(40) as usize, random.up_to(500) as usize);
         let _ = plan_in(c, random.up_to(300) as usize, random.up_to(60) as usize);
         let input: Vec<u8> = (0..random.up_to(9)).map(|_| b"0123456789 \n"[random.up_to(11) as usize]).collect();

@@ -2,6 +2,8 @@
 //!
 //! Each call takes any arguments and refuses by the documents' numbers; a refusal leaves every room as it came.
 
+use std::fmt;
+
 /// The declarations of `include/ladlebean.h`.
 mod archive {
     extern "C" {
@@ -11,10 +13,9 @@ mod archive {
             work_length: usize,
             recipe: *mut u8,
             recipe_length: usize,
-            answers: *mut u64,
-            answers_length: usize,
+            lines: *mut u64,
         ) -> u64;
-        pub fn ladlebean_check(c: u64, recipe: *const u8, recipe_length: usize) -> u64;
+        pub fn ladlebean_check(c: u64, recipe: *const u8, recipe_length: usize, line: *mut u64, value: *mut i64) -> u64;
         pub fn ladlebean_write(
             c: u64,
             w: u32,
@@ -27,8 +28,12 @@ mod archive {
             bits_length: usize,
             clauses: *mut i32,
             clauses_length: usize,
-            answers: *mut u64,
-            answers_length: usize,
+            words: *mut u64,
+            count: *mut u64,
+            next: *mut u64,
+            size: *mut u64,
+            line: *mut u64,
+            value: *mut i64,
         ) -> u64;
         pub fn ladlebean_write_plain(
             c: u64,
@@ -39,8 +44,12 @@ mod archive {
             bits_length: usize,
             clauses: *mut i32,
             clauses_length: usize,
-            answers: *mut u64,
-            answers_length: usize,
+            words: *mut u64,
+            count: *mut u64,
+            next: *mut u64,
+            size: *mut u64,
+            line: *mut u64,
+            value: *mut i64,
         ) -> u64;
         pub fn ladlebean_propagate(
             words: *const i32,
@@ -55,9 +64,52 @@ mod archive {
     }
 }
 
-/// The number of a refusal (docs/REFUSALS.md).
+/// Why a call refused (docs/REFUSALS.md): the documents' number; in 4 to 7 the first bad line of the recipe, from 1; and in a 7 what this line really gives
+/// and what it claims. Everything else is zero.
 #[derive(Clone, Copy, Debug, PartialEq, Eq)]
-pub struct Refusal(pub u64);
+pub struct Refusal {
+    pub number: u64,
+    pub line: usize,
+    pub value: i64,
+    pub claimed: u32,
+}
+
+impl Refusal {
+    fn plain(number: u64) -> Self {
+        Refusal { number, line: 0, value: 0, claimed: 0 }
+    }
+
+    fn of_recipe(number: u64, line: u64, value: i64, recipe: &[u8]) -> Self {
+        let line = line as usize;
+        let claimed = if number == WRONG_VALUE { claimed(recipe, line) } else { 0 };
+        Refusal { number, line, value, claimed }
+    }
+}
+
+impl fmt::Display for Refusal {
+    fn fmt(&self, f: &mut fmt::Formatter) -> fmt::Result {
+        let Refusal { number, line, value, claimed } = self;
+        match (*number, *line) {
+            (WRONG_VALUE, _) => write!(f, "refused {number}: line {line} gives {value}, claims {claimed}"),
+            (_, 0) => write!(f, "refused {number}"),
+            _ => write!(f, "refused {number}: line {line}"),
+        }
+    }
+}
+
+impl std::error::Error for Refusal {}
+
+/// The refusal of a line that claims another coefficient than its kind gives.
+const WRONG_VALUE: u64 = 7;
+
+/// The bytes of a recipe's line.
+const LINE_BYTES: usize = 5;
+
+/// The coefficient that a line claims, the line counted from 1: the last twenty of its forty bits.
+fn claimed(recipe: &[u8], line: usize) -> u32 {
+    let bytes = &recipe[LINE_BYTES * (line - 1)..LINE_BYTES * line];
+    bytes.iter().fold(0, |bits, byte| bits << 8 | u64::from(*byte)) as u32 & 0xF_FFFF
+}
 
 /// What a written product tells: words used, clauses, the next free number and bits of y.
 #[derive(Clone, Copy, Debug, PartialEq, Eq)]
@@ -68,39 +120,54 @@ pub struct Counts {
     pub bits: usize,
 }
 
-fn unless_refused<T>(number: u64, value: T) -> Result<T, Refusal> {
-    if number == 0 {
-        Ok(value)
-    } else {
-        Err(Refusal(number))
+/// The fields of a call of writing, each a number that the archive fills.
+#[derive(Default)]
+struct Fields {
+    words: u64,
+    count: u64,
+    next: u64,
+    size: u64,
+    line: u64,
+    value: i64,
+}
+
+impl Fields {
+    fn counted(self, number: u64, recipe: &[u8]) -> Result<Counts, Refusal> {
+        let counts = Counts { words: self.words as usize, clauses: self.count as usize, next: self.next as u32, bits: self.size as usize };
+        unless_refused(number, counts, || Refusal::of_recipe(number, self.line, self.value, recipe))
     }
 }
 
-fn counted(number: u64, [words, clauses, next, bits]: [u64; 4]) -> Result<Counts, Refusal> {
-    unless_refused(number, Counts { words: words as usize, clauses: clauses as usize, next: next as u32, bits: bits as usize })
+fn unless_refused<T>(number: u64, value: T, refusal: impl FnOnce() -> Refusal) -> Result<T, Refusal> {
+    if number == 0 {
+        Ok(value)
+    } else {
+        Err(refusal())
+    }
 }
 
 /// Plans the recipe for `c` into the two rooms; gives the number of lines.
 pub fn plan(c: u64, work: &mut [u8], recipe: &mut [u8]) -> Result<usize, Refusal> {
-    let mut lines = [0u64; 1];
-    // SAFETY: each pointer is good for its length, and distinct `&mut` do not overlap; the call asks no more.
-    let number = unsafe {
-        archive::ladlebean_plan(c, work.as_mut_ptr(), work.len(), recipe.as_mut_ptr(), recipe.len(), lines.as_mut_ptr(), lines.len())
-    };
-    unless_refused(number, lines[0] as usize)
+    let mut lines = 0;
+    // SAFETY: each pointer is good for its length, `lines` for one number, and distinct `&mut` do not overlap; the call asks no more.
+    let number =
+        unsafe { archive::ladlebean_plan(c, work.as_mut_ptr(), work.len(), recipe.as_mut_ptr(), recipe.len(), &mut lines) };
+    unless_refused(number, lines as usize, || Refusal::plain(number))
 }
 
 /// Whether `recipe` is right for `c`.
 pub fn check(c: u64, recipe: &[u8]) -> Result<(), Refusal> {
-    // SAFETY: the pointer is good for its length.
-    unless_refused(unsafe { archive::ladlebean_check(c, recipe.as_ptr(), recipe.len()) }, ())
+    let (mut line, mut value) = (0, 0);
+    // SAFETY: the pointer is good for its length, `line` and `value` for one number each.
+    let number = unsafe { archive::ladlebean_check(c, recipe.as_ptr(), recipe.len(), &mut line, &mut value) };
+    unless_refused(number, (), || Refusal::of_recipe(number, line, value, recipe))
 }
 
 /// Writes y and the clauses of `recipe` for `c` at width `w` into the two rooms; `x` is `w` literals, and `first` the first free number.
 #[allow(clippy::too_many_arguments)]
 pub fn write(c: u64, w: u32, x: &[i32], first: u32, recipe: &[u8], bits: &mut [i32], clauses: &mut [i32]) -> Result<Counts, Refusal> {
-    let mut answers = [0u64; 4];
-    // SAFETY: each pointer is good for its length, and distinct `&mut` do not overlap; the call asks no more.
+    let mut fields = Fields::default();
+    // SAFETY: each pointer is good for its length or for one number, and distinct `&mut` do not overlap; the call asks no more.
     let number = unsafe {
         archive::ladlebean_write(
             c,
@@ -114,16 +181,20 @@ pub fn write(c: u64, w: u32, x: &[i32], first: u32, recipe: &[u8], bits: &mut [i
             bits.len(),
             clauses.as_mut_ptr(),
             clauses.len(),
-            answers.as_mut_ptr(),
-            answers.len(),
+            &mut fields.words,
+            &mut fields.count,
+            &mut fields.next,
+            &mut fields.size,
+            &mut fields.line,
+            &mut fields.value,
         )
     };
-    counted(number, answers)
+    fields.counted(number, recipe)
 }
 
 /// The same where x is the variables 1 to `w`, and `w` + 1 the first free number.
 pub fn write_plain(c: u64, w: u32, recipe: &[u8], bits: &mut [i32], clauses: &mut [i32]) -> Result<Counts, Refusal> {
-    let mut answers = [0u64; 4];
+    let mut fields = Fields::default();
     // SAFETY: as above.
     let number = unsafe {
         archive::ladlebean_write_plain(
@@ -135,11 +206,15 @@ pub fn write_plain(c: u64, w: u32, recipe: &[u8], bits: &mut [i32], clauses: &mu
             bits.len(),
             clauses.as_mut_ptr(),
             clauses.len(),
-            answers.as_mut_ptr(),
-            answers.len(),
+            &mut fields.words,
+            &mut fields.count,
+            &mut fields.next,
+            &mut fields.size,
+            &mut fields.line,
+            &mut fields.value,
         )
     };
-    counted(number, answers)
+    fields.counted(number, recipe)
 }
 
 /// What a value room has for a variable that nothing is known of; 0 is false and 1 true.
@@ -162,5 +237,5 @@ pub fn propagate(words: &[i32], given: &[i32], allowance: u64, values: &mut [u8]
             &mut clauses,
         )
     };
-    unless_refused(number, clauses)
+    unless_refused(number, clauses, || Refusal::plain(number))
 }

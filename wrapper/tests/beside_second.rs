@@ -22,14 +22,18 @@ impl Reader {
     }
 }
 
+/// What both engines tell of a refusal.
+fn fields(refusal: ladlebean::Refusal) -> second::Refusal {
+    second::Refusal { number: refusal.number as u8, line: refusal.line as u64, value: refusal.value }
+}
+
 #[test]
 fn checks_agree() {
     let mut reader = Reader(streams::recipes(SEED, 20_000), 0);
     while !reader.ended() {
         let (c, length) = (reader.number(4), reader.number(1));
         let recipe = reader.take(length as usize);
-        let number = ladlebean::check(c, &recipe).err().map(|refusal| refusal.0 as u8);
-        assert_eq!(number, second::check(c, &recipe).err(), "{c} {recipe:?}");
+        assert_eq!(ladlebean::check(c, &recipe).map_err(fields), second::check(c, &recipe), "{c} {recipe:?}");
     }
 }
 
@@ -40,7 +44,7 @@ fn plans_agree() {
         let (c, work, recipe, _) = (reader.number(4), reader.number(2), reader.number(1), reader.number(1));
         let mut ours = (vec![7; work as usize], vec![7; recipe as usize]);
         let mut theirs = ours.clone();
-        let answer = ladlebean::plan(c, &mut ours.0, &mut ours.1).map_err(|refusal| refusal.0 as u8);
+        let answer = ladlebean::plan(c, &mut ours.0, &mut ours.1).map_err(fields);
         assert_eq!(answer, second::plan(c, &mut theirs.0, &mut theirs.1), "{c}");
         assert_eq!(ours, theirs, "{c}");
     }
@@ -49,22 +53,26 @@ fn plans_agree() {
 /// A call of writing and what it left.
 #[derive(Debug, PartialEq)]
 struct Left {
-    answer: Result<(usize, usize, u32, usize), u8>,
+    answer: Result<(usize, usize, u32, usize), second::Refusal>,
     bits: Vec<i32>,
     clauses: Vec<i32>,
 }
 
-fn left(bits: u64, clauses: u64, write: impl Fn(&mut [i32], &mut [i32]) -> Result<(usize, usize, u32, usize), u8>) -> Left {
+fn left(
+    bits: u64,
+    clauses: u64,
+    write: impl Fn(&mut [i32], &mut [i32]) -> Result<(usize, usize, u32, usize), second::Refusal>,
+) -> Left {
     let (mut bits, mut clauses) = (vec![7; bits as usize], vec![7; clauses as usize]);
     let answer = write(&mut bits, &mut clauses);
     Left { answer, bits, clauses }
 }
 
-fn told(answer: Result<ladlebean::Counts, ladlebean::Refusal>) -> Result<(usize, usize, u32, usize), u8> {
-    answer.map(|k| (k.words, k.clauses, k.next, k.bits)).map_err(|refusal| refusal.0 as u8)
+fn told(answer: Result<ladlebean::Counts, ladlebean::Refusal>) -> Result<(usize, usize, u32, usize), second::Refusal> {
+    answer.map(|k| (k.words, k.clauses, k.next, k.bits)).map_err(fields)
 }
 
-fn right(answer: Result<second::Counts, u8>) -> Result<(usize, usize, u32, usize), u8> {
+fn right(answer: Result<second::Counts, second::Refusal>) -> Result<(usize, usize, u32, usize), second::Refusal> {
     answer.map(|k| (k.words, k.clauses, k.next, k.bits))
 }
 
@@ -115,7 +123,7 @@ fn the_panels_variables_or_the_first_ones() {
             assert!(plain.bits[..length].iter().map(name).eq(other.bits[..length].iter().copied()), "{c} {w} {first}");
         }
         let past = left(32, 16_384, |b, k| told(ladlebean::write(c, w, &x, (1 << 31) - opened + 1, recipe, b, k)));
-        assert_eq!(past.answer, Err(15));
+        assert_eq!(past.answer, Err(second::Refusal { number: 15, line: 0, value: 0 }));
         assert!(past.bits.iter().chain(&past.clauses).all(|entry| *entry == 7));
     }
 }
@@ -130,7 +138,7 @@ fn passes_agree() {
         let (words, given) = (list(words), list(given));
         let mut ours = reader.take(room as usize);
         let mut theirs = ours.clone();
-        let answer = ladlebean::propagate(&words, &given, allowance, &mut ours).map_err(|refusal| refusal.0 as u8);
+        let answer = ladlebean::propagate(&words, &given, allowance, &mut ours).map_err(fields);
         assert_eq!(answer, second::propagate(&words, &given, allowance, &mut theirs), "{words:?} {given:?} {allowance}");
         assert_eq!(ours, theirs, "{words:?} {given:?} {allowance}");
     }
@@ -160,7 +168,7 @@ fn a_pass_multiplies() {
 #[test]
 fn constants_and_widths_of_every_size() {
     for c in [0, 1, 65_535, 65_536, u64::from(u32::MAX) + 1, u64::MAX] {
-        assert_eq!(ladlebean::check(c, &[]).err().map(|refusal| refusal.0 as u8), second::check(c, &[]).err(), "{c}");
+        assert_eq!(ladlebean::check(c, &[]).map_err(fields), second::check(c, &[]), "{c}");
         for w in [0, 1, 16, 17, u32::MAX] {
             let answer = told(ladlebean::write_plain(c, w, &[], &mut [], &mut []));
             assert_eq!(answer, right(second::write_plain(c, u64::from(w), &[], &mut [], &mut [])), "{c} {w}");
@@ -171,4 +179,26 @@ fn constants_and_widths_of_every_size() {
             }
         }
     }
+}
+
+#[test]
+fn a_refusal_shows_its_line() {
+    // 1965 = 131 * 16 - 131 with another kind, operand or claim in line 2 or 3
+    let right = [0x20, 4, 0, 0, 3, 0x20, 0x1C, 0x10, 0, 0x83, 0x41, 0x10, 0x20, 7, 0xAD];
+    assert_eq!(ladlebean::check(1965, &right), Ok(()));
+    let shown = |place: usize, byte: u8| {
+        let mut recipe = right;
+        recipe[place] = byte;
+        let refusal = ladlebean::check(1965, &recipe).unwrap_err();
+        assert_eq!(ladlebean::write_plain(1965, 8, &recipe, &mut [], &mut []), Err(refusal));
+        refusal.to_string()
+    };
+    assert_eq!(shown(10, 0x61), "refused 7: line 3 gives -1965, claims 1965");
+    assert_eq!(shown(9, 0x85), "refused 7: line 2 gives 131, claims 133");
+    assert_eq!(shown(9, 0x84), "refused 6: line 2");
+    assert_eq!(shown(12, 0x30), "refused 5: line 3");
+    assert_eq!(shown(5, 0), "refused 4: line 2");
+    assert_eq!(ladlebean::check(1967, &right).unwrap_err().to_string(), "refused 8");
+    assert_eq!(ladlebean::check(0, &right).unwrap_err().to_string(), "refused 1");
+    assert_eq!(ladlebean::plan(0, &mut [], &mut []).unwrap_err().to_string(), "refused 1");
 }

@@ -25,13 +25,15 @@ pub record PlanRooms : Type 0 where
   pub work-room : List ℕ
   pub recipe-room : List ℕ
 
--- checking: the refusal's number, or 0
+-- checking: the refusal's number, or 0, the bad line and the value that it gives
 pub record Checked : Type 0 where
   pub c : ℕ
   pub recipe : List ℕ
   pub number : ℕ
+  pub line : ℕ
+  pub value : ℤ
 
--- writing, x the variables 1 to w: the refusal's number, or 0, the counts, and y
+-- writing, x the variables 1 to w: the refusal's number, or 0, the bad line and the value that it gives, the counts, and y
 pub record Written : Type 0 where
   pub c : ℕ
   pub w : ℕ
@@ -39,6 +41,8 @@ pub record Written : Type 0 where
   pub bits : ℕ
   pub clauses : ℕ
   pub number : ℕ
+  pub line : ℕ
+  pub value : ℤ
   pub words-used : ℕ
   pub clauses-written : ℕ
   pub next : ℕ

@@ -8,6 +8,12 @@
 -- exactly where they say: that is the text of the three functions. A refusal writes nothing (`planning-refused`, `writing-refused`): where the
 -- answer is a refusal, whichever it is, each room at exit is what it was.
 --
+-- A refusal by a rule of a line, 4 to 7, tells which line and what it gives (document 02 c): every line before it is right, it breaks the rule that the number
+-- names and none before that one, and the value of a 7 is what its kind gives from the operands' claimed coefficients, so that it differs from the claim;
+-- in checking (`bad-line-told`) and in writing (`bad-line-told-writing`). Of a recipe that has a bad line nothing else can be told
+-- (`told-of-bad-line`), and writing tells what checking tells (`refusals-coincide`). The value has at most 52 bits with its sign (`value-fits`). Every
+-- other refusal tells a number alone, with line and value zero (`number-alone`), as planning's do (`planning-number-alone`); and success tells three zeros by definition (`nothing`).
+--
 -- Demand 2. A recipe is accepted exactly when it is right (`accepted-exactly`): c is in range, there are at most 32 lines of five bytes,
 -- each line has the form, names earlier operands, claims an odd coefficient and exactly the one that its kind gives, and the product is c's
 -- odd part. For an accepted one, a width from 1 to 16, as many literals of distinct variables below the first free number, room for the new
@@ -41,18 +47,25 @@
 -- every variable opened, and y read off the values is c times the number given (`pass-multiplies`). That it sets them is proved from the laws of a step that
 -- opens a variable (crates/cnf, `Extends`), whichever columns make the steps; that y is c times x then is demand 2's own law.
 use Prim.Native.Nat.{ℕ, suc, _+_, _-_, _*_, _/_, _%_, _^_, _≤_, _<_}
-use mathlib.Core.Path.{_≡_, refl, ap, _∙_}
+use mathlib.Core.Path.{_≡_, refl, ap, _∙_, sym, subst}
 use mathlib.Core.Bool.{Bool, true, false}
 use mathlib.Core.List.{List}
 use native.Mathlib.Omega.{arith}
-use lib.IntN.{ℤ}
+use lib.Dec.{ltb}
+use lib.IntN.{ℤ, pos, natAbs}
 use lib.ListN.{length, getD}
 use Rattle.line.specs.Number.{bit-length, odd-part}
+use Rattle.line.specs.Refusal.{told, refusal-number, refusal-line, refusal-value}
 use Rattle.line.specs.declared.Refusal.{Refusal}
-use Rattle.recipe.specs.Check.{checked, coefficient-at}
+use Rattle.line.specs.declared.Told.{Told}
+use Rattle.line.proofs.Refusals.{number-only}
+use Rattle.recipe.specs.Check.{checked, checked-told, coefficient-at, out-of-range}
 use Rattle.recipe.specs.Accepted.{Right}
-use Rattle.recipe.specs.declared.Checked.the-variants.{Accepted}
+use Rattle.recipe.specs.declared.Checked.the-variants.{Accepted, Refused}
+use Rattle.recipe.specs.Refused.{First-bad}
 use Rattle.recipe.proofs.Accepted.{accepted-right, right-accepted}
+use Rattle.recipe.proofs.Judged.{by-test}
+use Rattle.recipe.proofs.Refused.{Spoken, refused-first-bad, first-bad-told, value-bits}
 use Rattle.split.specs.Reach.{member, set-of}
 use Rattle.split.specs.Choose.{lines, Rule, split-of}
 use Rattle.split.specs.Order.{Earlier, coefficients, recipe-for, lines-bytes}
@@ -70,7 +83,7 @@ use Rattle.plan.proofs.Accepts as plan-laws
 use Rattle.plan.proofs.Accepts.{planned-accepted, planned-claims, planned-lines-half, planned-lines-form, planned-bits}
 use Rattle.product.specs.Product.{Product, product-of, clause-words}
 use Rattle.product.specs.Bit.{numbered}
-use Rattle.product.specs.Write.{not-literals, most-next, written, write-by, write-answer, plain-answer, written-number, clauses-written, next-free, y-length}
+use Rattle.product.specs.Write.{not-a-width, not-literals, most-next, written, write-by, write-answer, plain-answer, written-told, written-number, clauses-written, next-free, y-length}
 use Rattle.product.specs.Demand.{Demand-2, Plain-demand-2, Result, words-at-exit, entries-at-exit, Opened, Renamed}
 use Rattle.product.specs.declared.Written.{Written}
 use Rattle.product.specs.declared.Written.the-variants as write-answers
@@ -78,6 +91,7 @@ use Rattle.product.proofs.Given.{literals-of}
 use Rattle.product.proofs.Demands as product-demands
 use Rattle.product.proofs.Demands.{demand-2, not-refused, opened, plain-demand-2, renamed, demand-3-clauses}
 use Rattle.product.proofs.Plain.{plain-order}
+use Rattle.product.proofs.Refused.{writing-spoken, refused-alike}
 use Rattle.product.proofs.Success.{answer-of}
 use Rattle.cnf.specs.Clause.{Literal, Clause, Assignment, negation, All-distinct, Stands-in}
 use Rattle.cnf.specs.Words.{clauses-of, satisfies-words, names, Distinct-below}
@@ -116,6 +130,59 @@ pub writing-refused : (c w : ℕ) (x : List ℤ) (first : ℕ) (recipe : List �
 unfolding written
 writing-refused c w x first recipe bits clauses r e =
     writing-by (write-answer c w x first recipe (length bits) (length clauses)) (product-of c x first recipe) bits clauses r e
+
+-- ---- which line is bad
+
+pub bad-line-told : (c : ℕ) (recipe : List ℕ) (r : Refusal) → checked c recipe ≡ Refused r → 4 ≤ refusal-number r → refusal-number r ≤ 7 → First-bad recipe (told r)
+bad-line-told c recipe = refused-first-bad recipe c
+
+pub told-of-bad-line : (c : ℕ) (recipe : List ℕ) → 1 ≤ c → c ≤ 65535 → length recipe % 5 ≡ 0 → length recipe ≤ 160 → (t : Told) → First-bad recipe t
+    → checked-told (checked c recipe) ≡ t
+told-of-bad-line c recipe = first-bad-told recipe c
+
+pub value-fits : (recipe : List ℕ) (t : Told) → First-bad recipe t → natAbs (t .value) < 2 ^ 51
+value-fits = value-bits
+
+module _ (c w : ℕ) (x : List ℤ) (first : ℕ) (recipe : List ℕ) (bits clauses : List ℤ) (r : Refusal) where
+  pub bad-line-told-writing : written c w x first recipe bits clauses .answer ≡ write-answers.Refused r → 4 ≤ refusal-number r → refusal-number r ≤ 7
+      → First-bad recipe (told r)
+  bad-line-told-writing e h h′ =
+      subst (λ (a : Written). Spoken recipe (written-told a)) (sym (answer-of c w x first recipe bits clauses) ∙ e)
+      (writing-spoken c w x first recipe (length bits) (length clauses)) (h, h′)
+
+  pub refusals-coincide : 1 ≤ c → c ≤ 65535 → not-a-width w ≡ false → not-literals w x first ≡ false → checked c recipe ≡ Refused r
+      → written c w x first recipe bits clauses .answer ≡ write-answers.Refused r
+  refusals-coincide least most width literals e =
+      answer-of c w x first recipe bits clauses ∙ refused-alike c w x first recipe (length bits) (length clauses) least most width literals r e
+
+-- no line and no value is told
+abbrev Number-alone : Refusal → Type 0
+Number-alone r = (refusal-line r ≡ 0) × (refusal-value r ≡ pos 0)
+
+pub number-alone : (r : Refusal) → (4 ≤ refusal-number r → refusal-number r ≤ 7 → ⊥) → Number-alone r
+number-alone = number-only
+
+-- what a planning tells, if it refuses
+abbrev Alone : plan-types.Planned → Type 0
+Alone (plan-answers.Lines n) = Unit {0}
+Alone (plan-answers.Refused r) = Number-alone r
+
+plan-alone : (t : ℕ → ℕ) (c work recipe : ℕ) → Alone (plan-answer t c work recipe)
+unfolding plan-answer
+plan-alone t c work recipe =
+    by-test Alone (out-of-range c) _ _ (λ e. (refl, refl)) (λ e.
+    by-test Alone (ltb work (2 ^ (odd-bits c - 1))) _ _ (λ e. (refl, refl)) (λ e.
+    by-test Alone (ltb recipe (5 * (odd-bits c / 2))) _ _ (λ e. (refl, refl)) (λ e. tt)))
+
+plan-by-answer : (t : ℕ → ℕ) (a : plan-types.Planned) (c : ℕ) (work recipe : List ℕ) → plan-by t a c work recipe .answer ≡ a
+plan-by-answer t (plan-answers.Lines n) c work recipe = refl
+plan-by-answer t (plan-answers.Refused x) c work recipe = refl
+
+pub planning-number-alone : (c : ℕ) (work recipe : List ℕ) (r : Refusal) → planned c work recipe .answer ≡ plan-answers.Refused r → Number-alone r
+unfolding planned plan.plan-outcome
+planning-number-alone c work recipe r e =
+    let a = plan-answer split-of c (length work) (length recipe) in
+    subst Alone (sym (plan-by-answer split-of a c work recipe) ∙ e) (plan-alone split-of c (length work) (length recipe))
 
 -- ---- demand 2
 

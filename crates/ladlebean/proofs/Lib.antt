@@ -1,6 +1,6 @@
+pub mod Apart
 pub mod Once
 pub mod PlanCases
 pub mod Bench
 pub mod Demands
-pub mod Calls
 pub mod OurWords

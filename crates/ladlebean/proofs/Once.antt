@@ -20,22 +20,28 @@ use Rattle.line.proofs.twos.Kinds as TwosKinds
 use Rattle.line.proofs.twos.Reads as Twos
 use Rattle.line.proofs.odd_part.Kinds as OddPartKinds
 use Rattle.line.proofs.odd_part.Reads as OddPart
+use Rattle.line.proofs.Line.gives.Kinds as LineGivesKinds
+use Rattle.line.proofs.Line.gives.Reads as LineGives
+use Rattle.line.proofs.magnitude.Kinds as MagnitudeKinds
+use Rattle.line.proofs.magnitude.Reads as Magnitude
+use Rattle.line.proofs.Refusal.told.Kinds as RefusalToldKinds
+use Rattle.line.proofs.Refusal.told.Reads as RefusalTold
 use Rattle.line.proofs.Refusal.number.Kinds as RefusalNumberKinds
 use Rattle.line.proofs.Refusal.number.Reads as RefusalNumber
 use Rattle.recipe.proofs.check.Kinds as CheckKinds
 use Rattle.recipe.proofs.check.Reads as Check
 use Rattle.recipe.proofs.check_lines.Kinds as CheckLinesKinds
 use Rattle.recipe.proofs.check_lines.Reads as CheckLines
-use Rattle.recipe.proofs.Checked.number.Kinds as CheckedNumberKinds
-use Rattle.recipe.proofs.Checked.number.Reads as CheckedNumber
+use Rattle.recipe.proofs.Checked.told.Kinds as CheckedToldKinds
+use Rattle.recipe.proofs.Checked.told.Reads as CheckedTold
 use Rattle.plan.proofs.plan.Kinds as PlanKinds
 use Rattle.plan.proofs.plan.Reads as Plan
 use Rattle.plan.proofs.Planned.number.Kinds as PlannedNumberKinds
 use Rattle.plan.proofs.Planned.number.Reads as PlannedNumber
 use Rattle.plan.proofs.Planned.lines.Kinds as PlannedLinesKinds
 use Rattle.plan.proofs.Planned.lines.Reads as PlannedLines
-use Rattle.product.proofs.Written.number.Kinds as WrittenNumberKinds
-use Rattle.product.proofs.Written.number.Reads as WrittenNumber
+use Rattle.product.proofs.Written.told.Kinds as WrittenToldKinds
+use Rattle.product.proofs.Written.told.Reads as WrittenTold
 use Rattle.product.proofs.Written.counts.Kinds as WrittenCountsKinds
 use Rattle.product.proofs.Written.counts.Reads as WrittenCounts
 use Rattle.gates.proofs.flipped.Kinds as FlippedKinds
@@ -97,6 +103,15 @@ twos-once κs a x y e f p q = p .0 ∙ sym (q .0)
 pub odd-part-once : Answers OddPartKinds.ps OddPartKinds.r OddPart.Learnt
 odd-part-once κs a x y e f p q = p .0 ∙ sym (q .0)
 
+pub line-gives-once : Answers LineGivesKinds.ps LineGivesKinds.r LineGives.Learnt
+line-gives-once κs a x y e f p q = p ∙ sym q
+
+pub magnitude-once : Answers MagnitudeKinds.ps MagnitudeKinds.r Magnitude.Learnt
+magnitude-once κs a x y e f p q = p ∙ sym q
+
+pub refusal-told-once : Answers RefusalToldKinds.ps RefusalToldKinds.r RefusalTold.Learnt
+refusal-told-once κs a x y e f p q = p .0 ∙ sym (q .0)
+
 pub refusal-number-once : Answers RefusalNumberKinds.ps RefusalNumberKinds.r RefusalNumber.Learnt
 refusal-number-once κs a x y e f p q = p .0 ∙ sym (q .0)
 
@@ -106,8 +121,8 @@ check-once κs a x y e f p q = p ∙ sym q
 pub check-lines-once : Answers CheckLinesKinds.ps CheckLinesKinds.r CheckLines.Learnt
 check-lines-once κs a x y e f p q = p ∙ sym q
 
-pub checked-number-once : Answers CheckedNumberKinds.ps CheckedNumberKinds.r CheckedNumber.Learnt
-checked-number-once κs a x y e f p q = p .0 ∙ sym (q .0)
+pub checked-told-once : Answers CheckedToldKinds.ps CheckedToldKinds.r CheckedTold.Learnt
+checked-told-once κs a x y e f p q = p ∙ sym q
 
 pub plan-once : Coincide PlanKinds.ps PlanKinds.r Plan.Learnt (λ κs x y e f. (x ≡ y) × (now (e .1 .0) ≡ now (f .1 .0)) × (now (e .1 .1 .0) ≡ now (f .1 .1 .0)))
 plan-once κs a x y e f p q = (p .0 ∙ sym (q .0), p .1 ∙ sym (q .1), p .2 ∙ sym (q .2))
@@ -118,8 +133,8 @@ planned-number-once κs a x y e f p q = p .0 ∙ sym (q .0)
 pub planned-lines-once : Answers PlannedLinesKinds.ps PlannedLinesKinds.r PlannedLines.Learnt
 planned-lines-once κs a x y e f p q = p ∙ sym q
 
-pub written-number-once : Answers WrittenNumberKinds.ps WrittenNumberKinds.r WrittenNumber.Learnt
-written-number-once κs a x y e f p q = p .0 ∙ sym (q .0)
+pub written-told-once : Answers WrittenToldKinds.ps WrittenToldKinds.r WrittenTold.Learnt
+written-told-once κs a x y e f p q = p ∙ sym q
 
 pub written-counts-once : Answers WrittenCountsKinds.ps WrittenCountsKinds.r WrittenCounts.Learnt
 written-counts-once κs a x y e f p q = p ∙ sym q
@@ -145,17 +160,17 @@ write-plain-once κs a x y e f p q = (p .0 ∙ sym (q .0), p .1 .0 ∙ sym (q .1
 pub file-once : Coincide FileKinds.ps FileKinds.r File.Learnt (λ κs x y e f. (x ≡ y) × (now (e .1 .0) ≡ now (f .1 .0)))
 file-once κs a x y e f p q = (p .0 ∙ sym (q .0), p .1 ∙ sym (q .1))
 
-pub archive-check-once : Answers ArchiveCheckKinds.ps ArchiveCheckKinds.r ArchiveCheck.Learnt
-archive-check-once κs a x y e f p q = p ∙ sym q
+pub archive-check-once : Coincide ArchiveCheckKinds.ps ArchiveCheckKinds.r ArchiveCheck.Learnt (λ κs x y e f. (x ≡ y) × (now (e .1 .1 .0) ≡ now (f .1 .1 .0)) × (now (e .1 .1 .1 .0) ≡ now (f .1 .1 .1 .0)))
+archive-check-once κs a x y e f p q = (p .0 ∙ sym (q .0), p .1 .0 ∙ sym (q .1 .0), p .1 .1 ∙ sym (q .1 .1))
 
 pub archive-plan-once : Coincide ArchivePlanKinds.ps ArchivePlanKinds.r ArchivePlan.Learnt (λ κs x y e f. (x ≡ y) × (now (e .1 .0) ≡ now (f .1 .0)) × (now (e .1 .1 .0) ≡ now (f .1 .1 .0)) × (now (e .1 .1 .1 .0) ≡ now (f .1 .1 .1 .0)))
 archive-plan-once κs a x y e f p q = (p .0 ∙ sym (q .0), p .1 .0 ∙ sym (q .1 .0), p .1 .1 .0 ∙ sym (q .1 .1 .0), p .1 .1 .1 ∙ sym (q .1 .1 .1))
 
-pub archive-write-once : Coincide ArchiveWriteKinds.ps ArchiveWriteKinds.r ArchiveWrite.Learnt (λ κs x y e f. (x ≡ y) × (now (e .1 .1 .1 .1 .1 .0) ≡ now (f .1 .1 .1 .1 .1 .0)) × (now (e .1 .1 .1 .1 .1 .1 .0) ≡ now (f .1 .1 .1 .1 .1 .1 .0)) × (now (e .1 .1 .1 .1 .1 .1 .1 .0) ≡ now (f .1 .1 .1 .1 .1 .1 .1 .0)))
-archive-write-once κs a x y e f p q = (p .0 ∙ sym (q .0), p .1 .0 ∙ sym (q .1 .0), p .1 .1 .0 ∙ sym (q .1 .1 .0), p .1 .1 .1 ∙ sym (q .1 .1 .1))
+pub archive-write-once : Coincide ArchiveWriteKinds.ps ArchiveWriteKinds.r ArchiveWrite.Learnt (λ κs x y e f. (x ≡ y) × (now (e .1 .1 .1 .1 .1 .0) ≡ now (f .1 .1 .1 .1 .1 .0)) × (now (e .1 .1 .1 .1 .1 .1 .0) ≡ now (f .1 .1 .1 .1 .1 .1 .0)) × (now (e .1 .1 .1 .1 .1 .1 .1 .0) ≡ now (f .1 .1 .1 .1 .1 .1 .1 .0)) × (now (e .1 .1 .1 .1 .1 .1 .1 .1 .0) ≡ now (f .1 .1 .1 .1 .1 .1 .1 .1 .0)) × (now (e .1 .1 .1 .1 .1 .1 .1 .1 .1 .0) ≡ now (f .1 .1 .1 .1 .1 .1 .1 .1 .1 .0)) × (now (e .1 .1 .1 .1 .1 .1 .1 .1 .1 .1 .0) ≡ now (f .1 .1 .1 .1 .1 .1 .1 .1 .1 .1 .0)) × (now (e .1 .1 .1 .1 .1 .1 .1 .1 .1 .1 .1 .0) ≡ now (f .1 .1 .1 .1 .1 .1 .1 .1 .1 .1 .1 .0)) × (now (e .1 .1 .1 .1 .1 .1 .1 .1 .1 .1 .1 .1 .0) ≡ now (f .1 .1 .1 .1 .1 .1 .1 .1 .1 .1 .1 .1 .0)))
+archive-write-once κs a x y e f p q = (p .0 ∙ sym (q .0), p .1 .0 ∙ sym (q .1 .0), p .1 .1 .0 ∙ sym (q .1 .1 .0), p .1 .1 .1 .0 ∙ sym (q .1 .1 .1 .0), p .1 .1 .1 .1 .0 ∙ sym (q .1 .1 .1 .1 .0), p .1 .1 .1 .1 .1 .0 ∙ sym (q .1 .1 .1 .1 .1 .0), p .1 .1 .1 .1 .1 .1 .0 ∙ sym (q .1 .1 .1 .1 .1 .1 .0), p .1 .1 .1 .1 .1 .1 .1 .0 ∙ sym (q .1 .1 .1 .1 .1 .1 .1 .0), p .1 .1 .1 .1 .1 .1 .1 .1 ∙ sym (q .1 .1 .1 .1 .1 .1 .1 .1))
 
-pub archive-write-plain-once : Coincide ArchiveWritePlainKinds.ps ArchiveWritePlainKinds.r ArchiveWritePlain.Learnt (λ κs x y e f. (x ≡ y) × (now (e .1 .1 .1 .0) ≡ now (f .1 .1 .1 .0)) × (now (e .1 .1 .1 .1 .0) ≡ now (f .1 .1 .1 .1 .0)) × (now (e .1 .1 .1 .1 .1 .0) ≡ now (f .1 .1 .1 .1 .1 .0)))
-archive-write-plain-once κs a x y e f p q = (p .0 ∙ sym (q .0), p .1 .0 ∙ sym (q .1 .0), p .1 .1 .0 ∙ sym (q .1 .1 .0), p .1 .1 .1 ∙ sym (q .1 .1 .1))
+pub archive-write-plain-once : Coincide ArchiveWritePlainKinds.ps ArchiveWritePlainKinds.r ArchiveWritePlain.Learnt (λ κs x y e f. (x ≡ y) × (now (e .1 .1 .1 .0) ≡ now (f .1 .1 .1 .0)) × (now (e .1 .1 .1 .1 .0) ≡ now (f .1 .1 .1 .1 .0)) × (now (e .1 .1 .1 .1 .1 .0) ≡ now (f .1 .1 .1 .1 .1 .0)) × (now (e .1 .1 .1 .1 .1 .1 .0) ≡ now (f .1 .1 .1 .1 .1 .1 .0)) × (now (e .1 .1 .1 .1 .1 .1 .1 .0) ≡ now (f .1 .1 .1 .1 .1 .1 .1 .0)) × (now (e .1 .1 .1 .1 .1 .1 .1 .1 .0) ≡ now (f .1 .1 .1 .1 .1 .1 .1 .1 .0)) × (now (e .1 .1 .1 .1 .1 .1 .1 .1 .1 .0) ≡ now (f .1 .1 .1 .1 .1 .1 .1 .1 .1 .0)) × (now (e .1 .1 .1 .1 .1 .1 .1 .1 .1 .1 .0) ≡ now (f .1 .1 .1 .1 .1 .1 .1 .1 .1 .1 .0)))
+archive-write-plain-once κs a x y e f p q = (p .0 ∙ sym (q .0), p .1 .0 ∙ sym (q .1 .0), p .1 .1 .0 ∙ sym (q .1 .1 .0), p .1 .1 .1 .0 ∙ sym (q .1 .1 .1 .0), p .1 .1 .1 .1 .0 ∙ sym (q .1 .1 .1 .1 .0), p .1 .1 .1 .1 .1 .0 ∙ sym (q .1 .1 .1 .1 .1 .0), p .1 .1 .1 .1 .1 .1 .0 ∙ sym (q .1 .1 .1 .1 .1 .1 .0), p .1 .1 .1 .1 .1 .1 .1 .0 ∙ sym (q .1 .1 .1 .1 .1 .1 .1 .0), p .1 .1 .1 .1 .1 .1 .1 .1 ∙ sym (q .1 .1 .1 .1 .1 .1 .1 .1))
 
 pub propagated-number-once : Answers PropagatedNumberKinds.ps PropagatedNumberKinds.r PropagatedNumber.Learnt
 propagated-number-once κs a x y e f p q = p .0 ∙ sym (q .0)

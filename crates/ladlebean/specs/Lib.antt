@@ -1,2 +1,1 @@
-pub mod Archive
 pub mod OurWords

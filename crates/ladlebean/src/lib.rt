@@ -1,52 +1,39 @@
-// The archive for C: plan, check, write and one pass over words, over numbers and slices. A slice passes as a pointer and a length.
+// The archive for C: plan, check, write and one pass over words, over numbers and slices. A slice passes as a pointer and a length; each field of an
+// answer has a pointer to one number, and the refusal's number is the result.
 
 ghost use mathlib.Core.Path.{_≡_};
-ghost use Prim.Native.Nat.{_≤_};
-ghost use lib.ListN.{length};
-ghost use Rattle.line.specs.Room.{over};
-ghost use Rattle.recipe.specs.Check.{checked, checked-number};
-ghost use Rattle.product.specs.Write.{written-number};
+ghost use Rattle.plan.specs.Plan.{planned, planned-number, planned-lines};
+ghost use Rattle.recipe.specs.Check.{checked, checked-told};
+ghost use Rattle.product.specs.Write.{written, plain-written, written-told, written-number, words-used, clauses-written, next-free, bits-of-y};
 ghost use Rattle.propagate.specs.Pass.{propagated, propagated-number, clauses-read};
-ghost use Rattle.ladlebean.specs.Archive.{planning, counts-told, writing, plain-writing};
+use line::Told;
 use product::Written;
 
-// The number that says that the slice of answers is too short, which document 01 has no number for.
-const SHORT_ANSWERS: u64 = 99;
-
-// The words used, the clauses, the next free number and the bits of y.
-const WRITING_ANSWERS: usize = 4;
-
-// Whether a recipe is right for c: 0, or the refusal's number.
+// Whether a recipe is right for c: 0, or the refusal's number, with the bad line and the value that it gives.
 #[no_mangle]
-pub extern "C" fn ladlebean_check(c: u64, recipe: &[u8]) -> u64
-    ensures { λ r. ⌜ r ≡ checked-number (checked c (now (recipe .entry))) ⌝ }
+pub extern "C" fn ladlebean_check(c: u64, recipe: &[u8], line: &mut u64, value: &mut i64) -> u64
+    ensures { λ r. ⌜ r ≡ checked-told (checked c (now (recipe .entry))) .number ⌝ }
+    ensures { λ _. ⌜ now (line .exit) ≡ checked-told (checked c (now (recipe .entry))) .line ⌝ }
+    ensures { λ _. ⌜ now (value .exit) ≡ checked-told (checked c (now (recipe .entry))) .value ⌝ }
 {
-    recipe::check(c, recipe).number()
+    tell(recipe::check(c, recipe).told(), line, value)
 }
 
-// Plans a recipe for c: 0, or the refusal's number. The answer is the number of lines.
+// Plans a recipe for c: 0, or the refusal's number, with the number of lines.
 #[no_mangle]
-pub extern "C" fn ladlebean_plan(
-    c: u64,
-    work: &mut [u8],
-    recipe: &mut [u8],
-    answers: &mut [u64],
-) -> u64
-    ensures { λ r. ⌜ r ≡ planning c (now (work .entry)) (now (recipe .entry)) (now (answers .entry)) .number ⌝ }
-    ensures { λ r. ⌜ now (work .exit) ≡ planning c (now (work .entry)) (now (recipe .entry)) (now (answers .entry)) .work ⌝ }
-    ensures { λ r. ⌜ now (recipe .exit) ≡ planning c (now (work .entry)) (now (recipe .entry)) (now (answers .entry)) .recipe ⌝ }
-    ensures { λ r. ⌜ now (answers .exit) ≡ planning c (now (work .entry)) (now (recipe .entry)) (now (answers .entry)) .answers ⌝ }
+pub extern "C" fn ladlebean_plan(c: u64, work: &mut [u8], recipe: &mut [u8], lines: &mut u64) -> u64
+    ensures { λ r. ⌜ r ≡ planned-number (planned c (now (work .entry)) (now (recipe .entry)) .answer) ⌝ }
+    ensures { λ _. ⌜ now (work .exit) ≡ planned c (now (work .entry)) (now (recipe .entry)) .work ⌝ }
+    ensures { λ _. ⌜ now (recipe .exit) ≡ planned c (now (work .entry)) (now (recipe .entry)) .recipe ⌝ }
+    ensures { λ _. ⌜ now (lines .exit) ≡ planned-lines (planned c (now (work .entry)) (now (recipe .entry)) .answer) ⌝ }
 {
-    if answers.len() < 1 {
-        return SHORT_ANSWERS;
-    }
     let planned = plan::plan(c, work, recipe);
-    answers[0] = planned.lines() as u64;
+    *lines = planned.lines() as u64;
     planned.number()
 }
 
-// Writes the clauses of a recipe for c at width w, where x is w literals and first the first free number: 0, or the refusal's number. The answers
-// are the words used, the clauses, the next free number and the bits of y.
+// Writes the clauses of a recipe for c at width w, where x is w literals and first the first free number: 0, or the refusal's number, with the
+// words used, the clauses, the next free number, the bits of y, the bad line and the value that it gives.
 #[no_mangle]
 pub extern "C" fn ladlebean_write(
     c: u64,
@@ -56,17 +43,25 @@ pub extern "C" fn ladlebean_write(
     recipe: &[u8],
     bits: &mut [i32],
     clauses: &mut [i32],
-    answers: &mut [u64],
+    words: &mut u64,
+    count: &mut u64,
+    next: &mut u64,
+    size: &mut u64,
+    line: &mut u64,
+    value: &mut i64,
 ) -> u64
-    ensures { λ r. ⌜ r ≡ writing c w (now (x .entry)) first (now (recipe .entry)) (now (bits .entry)) (now (clauses .entry)) (now (answers .entry)) .number ⌝ }
-    ensures { λ r. ⌜ now (bits .exit) ≡ writing c w (now (x .entry)) first (now (recipe .entry)) (now (bits .entry)) (now (clauses .entry)) (now (answers .entry)) .bits ⌝ }
-    ensures { λ r. ⌜ now (clauses .exit) ≡ writing c w (now (x .entry)) first (now (recipe .entry)) (now (bits .entry)) (now (clauses .entry)) (now (answers .entry)) .clauses ⌝ }
-    ensures { λ r. ⌜ now (answers .exit) ≡ writing c w (now (x .entry)) first (now (recipe .entry)) (now (bits .entry)) (now (clauses .entry)) (now (answers .entry)) .answers ⌝ }
+    ensures { λ r. ⌜ r ≡ written-number (written c w (now (x .entry)) first (now (recipe .entry)) (now (bits .entry)) (now (clauses .entry)) .answer) ⌝ }
+    ensures { λ _. ⌜ now (bits .exit) ≡ written c w (now (x .entry)) first (now (recipe .entry)) (now (bits .entry)) (now (clauses .entry)) .bits ⌝ }
+    ensures { λ _. ⌜ now (clauses .exit) ≡ written c w (now (x .entry)) first (now (recipe .entry)) (now (bits .entry)) (now (clauses .entry)) .clauses ⌝ }
+    ensures { λ _. ⌜ now (words .exit) ≡ words-used (written c w (now (x .entry)) first (now (recipe .entry)) (now (bits .entry)) (now (clauses .entry)) .answer) ⌝ }
+    ensures { λ _. ⌜ now (count .exit) ≡ clauses-written (written c w (now (x .entry)) first (now (recipe .entry)) (now (bits .entry)) (now (clauses .entry)) .answer) ⌝ }
+    ensures { λ _. ⌜ now (next .exit) ≡ next-free (written c w (now (x .entry)) first (now (recipe .entry)) (now (bits .entry)) (now (clauses .entry)) .answer) ⌝ }
+    ensures { λ _. ⌜ now (size .exit) ≡ bits-of-y (written c w (now (x .entry)) first (now (recipe .entry)) (now (bits .entry)) (now (clauses .entry)) .answer) ⌝ }
+    ensures { λ _. ⌜ now (line .exit) ≡ written-told (written c w (now (x .entry)) first (now (recipe .entry)) (now (bits .entry)) (now (clauses .entry)) .answer) .line ⌝ }
+    ensures { λ _. ⌜ now (value .exit) ≡ written-told (written c w (now (x .entry)) first (now (recipe .entry)) (now (bits .entry)) (now (clauses .entry)) .answer) .value ⌝ }
 {
-    if answers.len() < WRITING_ANSWERS {
-        return SHORT_ANSWERS;
-    }
-    tell(write::write(c, w, x, first, recipe, bits, clauses), answers)
+    let written = write::write(c, w, x, first, recipe, bits, clauses);
+    tell_written(written, words, count, next, size, line, value)
 }
 
 // The same for document 01's call, where x is the variables 1 to w.
@@ -77,17 +72,25 @@ pub extern "C" fn ladlebean_write_plain(
     recipe: &[u8],
     bits: &mut [i32],
     clauses: &mut [i32],
-    answers: &mut [u64],
+    words: &mut u64,
+    count: &mut u64,
+    next: &mut u64,
+    size: &mut u64,
+    line: &mut u64,
+    value: &mut i64,
 ) -> u64
-    ensures { λ r. ⌜ r ≡ plain-writing c w (now (recipe .entry)) (now (bits .entry)) (now (clauses .entry)) (now (answers .entry)) .number ⌝ }
-    ensures { λ r. ⌜ now (bits .exit) ≡ plain-writing c w (now (recipe .entry)) (now (bits .entry)) (now (clauses .entry)) (now (answers .entry)) .bits ⌝ }
-    ensures { λ r. ⌜ now (clauses .exit) ≡ plain-writing c w (now (recipe .entry)) (now (bits .entry)) (now (clauses .entry)) (now (answers .entry)) .clauses ⌝ }
-    ensures { λ r. ⌜ now (answers .exit) ≡ plain-writing c w (now (recipe .entry)) (now (bits .entry)) (now (clauses .entry)) (now (answers .entry)) .answers ⌝ }
+    ensures { λ r. ⌜ r ≡ written-number (plain-written c w (now (recipe .entry)) (now (bits .entry)) (now (clauses .entry)) .answer) ⌝ }
+    ensures { λ _. ⌜ now (bits .exit) ≡ plain-written c w (now (recipe .entry)) (now (bits .entry)) (now (clauses .entry)) .bits ⌝ }
+    ensures { λ _. ⌜ now (clauses .exit) ≡ plain-written c w (now (recipe .entry)) (now (bits .entry)) (now (clauses .entry)) .clauses ⌝ }
+    ensures { λ _. ⌜ now (words .exit) ≡ words-used (plain-written c w (now (recipe .entry)) (now (bits .entry)) (now (clauses .entry)) .answer) ⌝ }
+    ensures { λ _. ⌜ now (count .exit) ≡ clauses-written (plain-written c w (now (recipe .entry)) (now (bits .entry)) (now (clauses .entry)) .answer) ⌝ }
+    ensures { λ _. ⌜ now (next .exit) ≡ next-free (plain-written c w (now (recipe .entry)) (now (bits .entry)) (now (clauses .entry)) .answer) ⌝ }
+    ensures { λ _. ⌜ now (size .exit) ≡ bits-of-y (plain-written c w (now (recipe .entry)) (now (bits .entry)) (now (clauses .entry)) .answer) ⌝ }
+    ensures { λ _. ⌜ now (line .exit) ≡ written-told (plain-written c w (now (recipe .entry)) (now (bits .entry)) (now (clauses .entry)) .answer) .line ⌝ }
+    ensures { λ _. ⌜ now (value .exit) ≡ written-told (plain-written c w (now (recipe .entry)) (now (bits .entry)) (now (clauses .entry)) .answer) .value ⌝ }
 {
-    if answers.len() < WRITING_ANSWERS {
-        return SHORT_ANSWERS;
-    }
-    tell(write::write_plain(c, w, recipe, bits, clauses), answers)
+    let written = write::write_plain(c, w, recipe, bits, clauses);
+    tell_written(written, words, count, next, size, line, value)
 }
 
 // One pass over words that believes only the clauses: 0, or the refusal's number; `clauses` is the number of clauses read.
@@ -108,16 +111,40 @@ pub extern "C" fn ladlebean_propagate(
     propagated.number()
 }
 
-// The number of what was written, and its four counts at the front of the answers.
-fn tell(written: Written, answers: &mut [u64]) -> u64
-    requires { ⌜ 4 ≤ length (now answers) ⌝ }
+// The number, with the line and the value apart.
+fn tell(told: Told, line: &mut u64, value: &mut i64) -> u64
+    ensures { λ r. ⌜ r ≡ told .number ⌝ }
+    ensures { λ _. ⌜ now (line .exit) ≡ told .line ⌝ }
+    ensures { λ _. ⌜ now (value .exit) ≡ told .value ⌝ }
+{
+    *line = told.line as u64;
+    let z = told.value;
+    *value = z;
+    told.number
+}
+
+// The number of what was written, with its counts, the line and the value apart.
+fn tell_written(
+    written: Written,
+    words: &mut u64,
+    count: &mut u64,
+    next: &mut u64,
+    size: &mut u64,
+    line: &mut u64,
+    value: &mut i64,
+) -> u64
     ensures { λ r. ⌜ r ≡ written-number written ⌝ }
-    ensures { λ _. ⌜ now (answers .exit) ≡ over (counts-told written) (now (answers .entry)) ⌝ }
+    ensures { λ _. ⌜ now (words .exit) ≡ words-used written ⌝ }
+    ensures { λ _. ⌜ now (count .exit) ≡ clauses-written written ⌝ }
+    ensures { λ _. ⌜ now (next .exit) ≡ next-free written ⌝ }
+    ensures { λ _. ⌜ now (size .exit) ≡ bits-of-y written ⌝ }
+    ensures { λ _. ⌜ now (line .exit) ≡ written-told written .line ⌝ }
+    ensures { λ _. ⌜ now (value .exit) ≡ written-told written .value ⌝ }
 {
     let counts = written.counts();
-    answers[0] = counts.words as u64;
-    answers[1] = counts.clauses as u64;
-    answers[2] = counts.next as u64;
-    answers[3] = counts.bits as u64;
-    written.number()
+    *words = counts.words as u64;
+    *count = counts.clauses as u64;
+    *next = counts.next as u64;
+    *size = counts.bits as u64;
+    tell(written.told(), line, value)
 }

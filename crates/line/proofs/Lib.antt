@@ -1,4 +1,5 @@
 pub mod Number
 pub mod RoundTrip
 pub mod Value
+pub mod Signed
 pub mod Refusals

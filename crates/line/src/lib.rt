@@ -1,11 +1,12 @@
 // One recipe line: its fields, its forty bits and its limits; and the refusals that every call answers with.
 
 ghost use mathlib.Core.Path.{_≡_};
-ghost use Prim.Native.Nat.{ℕ, _+_, _*_, _%_, _<_, _≤_, _^_};
+ghost use Prim.Native.Nat.{_+_, _*_, _%_, _<_, _≤_, _^_};
+ghost use lib.IntN.{pos, _-ℤ_, natAbs};
 ghost use lib.ListN.{getD};
 ghost use Rattle.line.specs.Number.{bit-length, twos, odd-part};
-ghost use Rattle.line.specs.Line.{number, line-of, forty-bits, bytes-of};
-ghost use Rattle.line.specs.Refusal.{refusal-number};
+ghost use Rattle.line.specs.Line.{line-gives, number, line-of, forty-bits, bytes-of};
+ghost use Rattle.line.specs.Refusal.{about, told, refusal-number};
 
 // The fields of a line in the order of its forty bits.
 pub struct Line {
@@ -48,6 +49,24 @@ impl Line {
         }
     }
 
+    // What the kind makes of operands with the coefficients l and r, which may be below 0. Of a field and of a coefficient only the bits
+    // that the form gives it, so that every line has an answer.
+    pub fn gives(self, l: u64, r: u64) -> i64
+        ensures { λ z. ⌜ z ≡ line-gives self l r ⌝ }
+    {
+        let kind = self.kind % 4;
+        let s = self.shift % 32;
+        let left = l % (Line::MOST_COEFFICIENT + 1);
+        let right = r % (Line::MOST_COEFFICIENT + 1);
+        if kind == Line::SPLUS {
+            return (shifted(left, s) + right) as i64;
+        }
+        if kind == Line::SMINUS {
+            return difference(shifted(left, s), right);
+        }
+        difference(left, shifted(right, s))
+    }
+
     // The line that five bytes are; a byte that is missing counts as 0.
     pub fn read(part: &[u8]) -> Self
         ensures { λ r. ⌜ r ≡ line-of (number (now (part .entry))) ⌝ }
@@ -79,6 +98,22 @@ impl Line {
             (v & 255) as u8,
         ]
     }
+}
+
+// A coefficient, shifted.
+fn shifted(a: u64, s: u64) -> u64
+    requires { ⌜ (a < 2 ^ 20) × (s < 2 ^ 5) ⌝ }
+    ensures { λ r. ⌜ (r ≡ a * 2 ^ s) × (r < 2 ^ 52) ⌝ }
+{
+    a << s
+}
+
+// A difference, which may be below 0.
+fn difference(a: u64, b: u64) -> i64
+    requires { ⌜ (a < 2 ^ 52) × (b < 2 ^ 52) ⌝ }
+    ensures { λ z. ⌜ z ≡ pos a -ℤ pos b ⌝ }
+{
+    a as i64 - b as i64
 }
 
 // The low k bits of f below v.
@@ -149,15 +184,27 @@ pub fn odd_part(c: u64) -> u64
     c >> twos(c)
 }
 
-// Why a call refuses: document 01's list, in its order, and then document 02's.
+// The magnitude of a number with a sign; the least one has no negation of its own.
+pub fn magnitude(z: i64) -> u64
+    ensures { λ r. ⌜ r ≡ natAbs z ⌝ }
+{
+    if z < 0 {
+        let above = z + 1;
+        return (0 - above) as u64 + 1;
+    }
+    z as u64
+}
+
+// Why a call refuses: document 01's list, in its order, and then document 02's. Those that speak of a recipe's line hold its number, from 1
+// on, and the last of them the value that the line really gives.
 pub enum Refusal {
     Constant,
     Width,
     Length,
-    Form,
-    Operand,
-    Even,
-    Value,
+    Form(usize),
+    Operand(usize),
+    Even(usize),
+    Value(usize, i64),
     Product,
     BitRoom,
     ClauseRoom,
@@ -172,31 +219,59 @@ pub enum Refusal {
     Given,
 }
 
+// What an answer tells of a refusal: the documents' number, the line and the value; zero where there is none.
+pub struct Told {
+    pub number: u64,
+    pub line: usize,
+    pub value: i64,
+}
+
+// A number and a line, with no value.
+fn about(number: u64, line: usize) -> Told
+    ensures { λ r. ⌜ r ≡ about number line ⌝ }
+{
+    Told {
+        number,
+        line,
+        value: 0,
+    }
+}
+
 impl Refusal {
+    pub fn told(self) -> Told
+        ensures { λ r. ⌜ (r ≡ told self) × (r .number < 100) ⌝ }
+    {
+        match self {
+            Refusal::Constant => about(1, 0),
+            Refusal::Width => about(2, 0),
+            Refusal::Length => about(3, 0),
+            Refusal::Form(line) => about(4, line),
+            Refusal::Operand(line) => about(5, line),
+            Refusal::Even(line) => about(6, line),
+            Refusal::Value(line, value) => Told {
+                number: 7,
+                line,
+                value,
+            },
+            Refusal::Product => about(8, 0),
+            Refusal::BitRoom => about(9, 0),
+            Refusal::ClauseRoom => about(10, 0),
+            Refusal::WorkRoom => about(11, 0),
+            Refusal::RecipeRoom => about(12, 0),
+            Refusal::Input => about(13, 0),
+            Refusal::Literals => about(14, 0),
+            Refusal::Variables => about(15, 0),
+            Refusal::Allowance => about(20, 0),
+            Refusal::Words => about(21, 0),
+            Refusal::Conflict => about(22, 0),
+            Refusal::Given => about(26, 0),
+        }
+    }
+
     // The documents' number.
     pub fn number(self) -> u64
         ensures { λ r. ⌜ (r ≡ refusal-number self) × (r < 100) ⌝ }
     {
-        match self {
-            Refusal::Constant => 1,
-            Refusal::Width => 2,
-            Refusal::Length => 3,
-            Refusal::Form => 4,
-            Refusal::Operand => 5,
-            Refusal::Even => 6,
-            Refusal::Value => 7,
-            Refusal::Product => 8,
-            Refusal::BitRoom => 9,
-            Refusal::ClauseRoom => 10,
-            Refusal::WorkRoom => 11,
-            Refusal::RecipeRoom => 12,
-            Refusal::Input => 13,
-            Refusal::Literals => 14,
-            Refusal::Variables => 15,
-            Refusal::Allowance => 20,
-            Refusal::Words => 21,
-            Refusal::Conflict => 22,
-            Refusal::Given => 26,
-        }
+        self.told().number
     }
 }

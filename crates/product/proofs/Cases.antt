@@ -6,12 +6,13 @@ use lib.IntN.{ℤ, pos}
 use lib.ListN.{replicate, take}
 use Rattle.line.specs.Number.{digits-by, bit-length, halvings-by, twos, odd-part}
 use Rattle.line.specs.Line.{kind-of, gives}
+use Rattle.line.specs.declared.Told.{Told}
 use Rattle.recipe.specs.Check.{claims, judged, lines-checked, recipe-checked}
 use Rattle.product.specs.Bit.{numbered}
 use Rattle.product.specs.Column.{parity, sum, both, either, most, carry, sum-of, carry-of, carry-unless, column}
 use Rattle.product.specs.Lines.{adder, shifted, fitted, line-sum, columns, line-encoded, encoded}
 use Rattle.product.specs.Product.{product, lines-from, product-of}
-use Rattle.product.specs.Write.{Outcome, written-number, words-used, clauses-written, next-free, bits-of-y, write-answer, written}
+use Rattle.product.specs.Write.{Outcome, written-told, words-used, clauses-written, next-free, bits-of-y, write-answer, written}
 use Rattle.cases.specs.Table.{Table, Written, WriteRooms, Given, GivenRooms}
 use Rattle.cases.specs.Bench.{bench}
 use Rattle.cases.specs.Agreed.{agreed}
@@ -24,13 +25,16 @@ outcome c w x first recipe bits clauses = written c w x first recipe (replicate 
 abbrev answered-over : List ℤ → ℕ → Written → Written
 answered-over x first k =
     let o : Outcome = outcome (k .c) (k .w) x first (k .recipe) (k .bits) (k .clauses) in
+    let t : Told = written-told (o .answer) in
     record {
       c = k .c;
       w = k .w;
       recipe = k .recipe;
       bits = k .bits;
       clauses = k .clauses;
-      number = written-number (o .answer);
+      number = t .number;
+      line = t .line;
+      value = t .value;
       words-used = words-used (o .answer);
       clauses-written = clauses-written (o .answer);
       next = next-free (o .answer);

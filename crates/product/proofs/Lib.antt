@@ -22,3 +22,4 @@ pub mod Plain
 pub mod Success
 pub mod Demands
 pub mod Instances
+pub mod Refused

@@ -6,9 +6,10 @@ use lib.Dec.{eqb, ltb}
 use lib.IntN.{ℤ}
 use lib.ListN.{length}
 use Rattle.line.specs.Number.{bit-length, odd-part}
-use Rattle.line.specs.Refusal.{refusal-number}
+use Rattle.line.specs.Refusal.{nothing, told}
 use Rattle.line.specs.Room.{over}
 use Rattle.line.specs.declared.Refusal.the-variants.{Constant, Width, BitRoom, ClauseRoom, Literals, Variables}
+use Rattle.line.specs.declared.Told.{Told}
 use Rattle.recipe.specs.Check.{out-of-range, recipe-checked}
 use Rattle.recipe.specs.declared.Checked.{Checked}
 use Rattle.recipe.specs.declared.Checked.the-variants as check
@@ -19,11 +20,15 @@ use Rattle.product.specs.declared.Counts.{Counts}
 use Rattle.product.specs.declared.Written.{Written}
 use Rattle.product.specs.declared.Written.the-variants.{Clauses, Refused}
 
--- ---- the documents' number of an answer, 0 for success, and its counts, zero in a refusal
+-- ---- what an answer tells of a refusal, all zero in success, and its counts, zero in a refusal
 
+abbrev pub written-told : Written → Told
+written-told (Clauses words clauses next bits) = nothing
+written-told (Refused x) = told x
+
+-- the documents' number
 abbrev pub written-number : Written → ℕ
-written-number (Clauses words clauses next bits) = 0
-written-number (Refused x) = refusal-number x
+written-number a = written-told a .number
 
 abbrev pub words-used : Written → ℕ
 words-used (Clauses words clauses next bits) = words

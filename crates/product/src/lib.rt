@@ -1,9 +1,9 @@
 // The product of x and a constant as clauses: what writing answers.
 
 ghost use mathlib.Core.Path.{_≡_};
-ghost use Prim.Native.Nat.{_<_};
-ghost use Rattle.product.specs.Write.{written-number, counts-of};
+ghost use Rattle.product.specs.Write.{written-told, counts-of};
 use line::Refusal;
+use line::Told;
 
 pub enum Written {
     Clauses {
@@ -23,9 +23,9 @@ pub struct Counts {
 }
 
 impl Written {
-    // The documents' number, 0 for success.
-    pub fn number(self) -> u64
-        ensures { λ r. ⌜ (r ≡ written-number self) × (r < 100) ⌝ }
+    // The documents' number, the bad line and the value that it gives; all zero in success.
+    pub fn told(self) -> Told
+        ensures { λ r. ⌜ r ≡ written-told self ⌝ }
     {
         match self {
             Written::Clauses {
@@ -33,8 +33,12 @@ impl Written {
                 clauses: _,
                 next: _,
                 bits: _,
-            } => 0,
-            Written::Refused(x) => x.number(),
+            } => Told {
+                number: 0,
+                line: 0,
+                value: 0,
+            },
+            Written::Refused(x) => x.told(),
         }
     }
 

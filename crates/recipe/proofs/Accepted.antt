@@ -14,7 +14,7 @@
 --
 -- What follows of an accepted recipe: every operand's coefficient is odd, and below 2^20 (`coefficient-lt` of Walk), so every line has s of at least 1.
 -- Assumes nothing.
-use mathlib.Core.Path.{_≡_, refl, ap, _∙_, sym}
+use mathlib.Core.Path.{_≡_, refl, ap, _∙_, sym, subst}
 use mathlib.Core.List.{List}
 use mathlib.Core.Bool.{Bool, true, false, cond, _||_}
 use Prim.Native.Nat.{ℕ, zero, suc, _+_, _/_, _%_, _≤_, _<_}
@@ -27,7 +27,7 @@ use Rattle.line.specs.Number.{odd-part}
 use Rattle.line.specs.Line.{Kind, splus, sminus, minuss, kind-of, gives}
 use Rattle.line.specs.declared.Line.{Line}
 use Rattle.line.specs.declared.Refusal.{Refusal}
-use Rattle.line.specs.declared.Refusal.the-variants.{Constant, Length, Form, Operand, Even, Value, Product}
+use Rattle.line.specs.declared.Refusal.the-variants.{Constant, Length, Value, Product}
 use Rattle.line.proofs.Value.{Sums, sums-of-gives}
 use Rattle.recipe.specs.declared.Checked.{Checked}
 use Rattle.recipe.specs.declared.Checked.the-variants.{Accepted, Refused}
@@ -35,7 +35,8 @@ use Rattle.recipe.specs.declared.Verdict.{Verdict}
 use Rattle.recipe.specs.declared.Verdict.the-variants.{Kept, Broken}
 use Rattle.recipe.specs.Check.{claims, judged, judged-at, line-at, coefficient-at, unless-broken, lines-checked, recipe-checked, out-of-range, checked}
 use Rattle.recipe.specs.Accepted.{Line-right, Makes, Right}
-use Rattle.recipe.proofs.Claims.{claims-true, true-claims}
+use Rattle.recipe.proofs.Claims.{true-claims}
+use Rattle.recipe.proofs.Judged.{Says, judged-says}
 use Rattle.recipe.proofs.Walk.{judged-value}
 
 -- ---- a chain of tests that refuses nothing has passed them all; it may be of any type of answers, of which `good` is no refusal
@@ -49,9 +50,6 @@ module _ {A : Type 0} (good bad : A) (differ : bad ≡ good → ⊥) where
   passed-else true x e = absurd (differ e)
   passed-else false x e = (refl, e)
 
-broken : (x : Refusal) → Broken x ≡ Kept → ⊥
-broken x e = let z : _≡_ {A = ℕ} 0 1 = cc in omega arith
-
 refused : (x : Refusal) → Refused x ≡ Accepted → ⊥
 refused x e = let z : _≡_ {A = ℕ} 0 1 = cc in omega arith
 
@@ -59,29 +57,13 @@ refused x e = let z : _≡_ {A = ℕ} 0 1 = cc in omega arith
 
 module _ (line : Line) (i l r : ℕ) where
   kept-right : line .kind ≤ 3 → line .coefficient ≤ 1048575 → judged line i l r ≡ Kept → Line-right line i l r
-  unfolding judged
-  kept-right m n e =
-      let top = passed-else Kept (Broken Form) (broken Form) (ltb 0 (line .top)) _ e in
-      let kind = passed-else Kept (Broken Form) (broken Form) (eqb (line .kind) 0) _ (top .1) in
-      let left = passed-else Kept (Broken Operand) (broken Operand) (ltb i (line .left)) _ (kind .1) in
-      let right = passed-else Kept (Broken Operand) (broken Operand) (ltb i (line .right)) _ (left .1) in
-      let even = passed-else Kept (Broken Even) (broken Even) (eqb (line .coefficient % 2) 0) _ (right .1) in
-      let value = passed-then Kept (Broken Value) (broken Value) (claims (line .coefficient) (gives (kind-of (line .kind)) l (line .shift) r)) Kept (even .1) in
-      record {
-        top = omega (arith, ltb-false 0 (line .top) (top .0));
-        kind-least = omega (arith, eqb-false (line .kind) 0 (kind .0));
-        kind-most = m;
-        left = ltb-false i (line .left) (left .0);
-        right = ltb-false i (line .right) (right .0);
-        odd = omega (arith, eqb-false (line .coefficient % 2) 0 (even .0));
-        most = n;
-        value = claims-true (line .coefficient) (gives (kind-of (line .kind)) l (line .shift) r) (value .0);
-      }
+  kept-right m n e = subst (Says line i l r) e (judged-says line i l r m n)
 
   right-kept : Line-right line i l r → judged line i l r ≡ Kept
   right-kept g =
       let z = gives (kind-of (line .kind)) l (line .shift) r in
-      judged-value line i l r true (omega arith) (omega arith) (g .left) (g .right) (omega arith) (sym (true-claims (line .coefficient) z (g .value)))
+      judged-value line i l r (omega arith) (omega arith) (g .left) (g .right) (omega arith)
+      ∙ ap (λ (b : Bool). cond b Kept (Broken (Value (i + 1) z))) (true-claims (line .coefficient) z (g .value))
 
 -- ---- the lines and their product
 

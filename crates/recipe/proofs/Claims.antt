@@ -1,13 +1,14 @@
--- A claimed coefficient is right exactly where it is what the kind gives, and the test of that by sums, for each kind. Assumes nothing.
-use mathlib.Core.Path.{_≡_, refl, sym, ap}
-use mathlib.Core.Bool.{Bool, true, false}
-use Prim.Native.Nat.{ℕ, _+_, _*_, _^_}
+-- A claimed coefficient is right exactly where it is what the kind gives; and the machine's test of that, which compares bits. Assumes nothing.
+use mathlib.Core.Path.{_≡_, refl, ap}
+use mathlib.Core.Bool.{true}
+use Prim.Native.Nat.{ℕ, _<_, _^_}
 use native.Mathlib.Omega.{arith}
 use lib.Dec.{eqb}
-use lib.IntN.{ℤ, pos, negsuc, _-ℤ_, natAbs, pos-ne-negsuc}
+use lib.IntN.{ℤ, pos, negsuc, natAbs, pos-ne-negsuc}
+use lib.Signed.{mag}
 use borrow.Author.Tests.{eqb-true, eq-eqb, ne-eqb}
-use Rattle.line.specs.Line.{kind-of, gives}
-use Rattle.line.proofs.Value.{sum-of-difference, difference-of-sum}
+use mir.Syntax.{w64}
+use mir.Val.{ofZ}
 use Rattle.recipe.specs.Check.{claims}
 
 pub claims-true : (k : ℕ) (z : ℤ) → claims k z ≡ true → pos k ≡ z
@@ -20,28 +21,8 @@ unfolding claims
 true-claims k (pos n) e = eq-eqb k n (ap natAbs e)
 true-claims k (negsuc n) e = absurd (pos-ne-negsuc k n e)
 
--- two tests that are true together are the same
-same-test : (t u : Bool) → (t ≡ true → u ≡ true) → (u ≡ true → t ≡ true) → t ≡ u
-same-test true true f g = refl
-same-test true false f g = sym (f refl)
-same-test false true f g = g refl
-same-test false false f g = refl
-
-claims-difference : (k a b : ℕ) → eqb (k + b) a ≡ claims k (pos a -ℤ pos b)
-claims-difference k a b =
-    same-test (eqb (k + b) a) (claims k (pos a -ℤ pos b))
-    (λ e. true-claims k (pos a -ℤ pos b) (difference-of-sum k a b (eqb-true (k + b) a e)))
-    (λ e. eq-eqb (k + b) a (sum-of-difference k a b (claims-true k (pos a -ℤ pos b) e)))
-
-module _ (kind l s r k x : ℕ) where
-  pub claims-splus : kind ≡ 1 → x ≡ l * 2 ^ s → eqb k (x + r) ≡ claims k (gives (kind-of kind) l s r)
-  unfolding kind-of gives claims
-  claims-splus h e = rw (h, e)
-
-  pub claims-sminus : kind ≡ 2 → x ≡ l * 2 ^ s → eqb (k + r) x ≡ claims k (gives (kind-of kind) l s r)
-  unfolding kind-of gives
-  claims-sminus h e = rw (h, e) (claims-difference k (l * 2 ^ s) r)
-
-  pub claims-minuss : (kind ≡ 1 → ⊥) → (kind ≡ 2 → ⊥) → x ≡ r * 2 ^ s → eqb (k + x) l ≡ claims k (gives (kind-of kind) l s r)
-  unfolding kind-of gives
-  claims-minuss n m e = rw (ne-eqb kind 1 n, ne-eqb kind 2 m, e) (claims-difference k l (r * 2 ^ s))
+-- a number below 2^20 has the bits of no negative one
+pub claims-bits : (k : ℕ) (z : ℤ) → k < 2 ^ 20 → mag z < 2 ^ 63 → eqb k (ofZ w64 z) ≡ claims k z
+unfolding claims
+claims-bits k (pos n) h m = refl
+claims-bits k (negsuc n) h m = ne-eqb k (ofZ w64 (negsuc n)) (omega arith)

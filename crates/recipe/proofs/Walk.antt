@@ -13,11 +13,11 @@ use borrow.Author.Tests.{eq-eqb, ne-eqb, le-ltb, ltb-false}
 use Rattle.line.specs.Line.{kind-of, gives, line-of, number}
 use Rattle.line.specs.declared.Line.{Line}
 use Rattle.line.specs.declared.Refusal.{Refusal}
-use Rattle.line.specs.declared.Refusal.the-variants.{Form, Operand, Even, Value, Product}
+use Rattle.line.specs.declared.Refusal.the-variants.{Form, Operand, Even, Product}
 use Rattle.recipe.specs.declared.Checked.the-variants.{Accepted, Refused}
 use Rattle.recipe.specs.declared.Verdict.{Verdict}
 use Rattle.recipe.specs.declared.Verdict.the-variants.{Kept, Broken}
-use Rattle.recipe.specs.Check.{claims, judged, judged-at, line-at, coefficient-at, unless-broken, lines-checked, recipe-checked}
+use Rattle.recipe.specs.Check.{value-judged, judged, judged-at, line-at, coefficient-at, unless-broken, lines-checked, recipe-checked}
 
 -- ---- the walk
 
@@ -71,18 +71,18 @@ else-same false z f = f refl
 judged-same : (line : Line) (i l l′ r r′ : ℕ) → (line .left ≤ i → l ≡ l′) → (line .right ≤ i → r ≡ r′) → judged line i l r ≡ judged line i l′ r′
 unfolding judged
 judged-same line i l l′ r r′ hl hr =
-    ap (λ (v : Verdict). cond (ltb 0 (line .top)) (Broken Form) (cond (eqb (line .kind) 0) (Broken Form) v))
-    (else-same (ltb i (line .left)) (Broken Operand) (λ e.
-    else-same (ltb i (line .right)) (Broken Operand) (λ e′.
-    ap₂ (λ (x y : ℕ). cond (eqb (line .coefficient % 2) 0) (Broken Even) (cond (claims (line .coefficient) (gives (kind-of (line .kind)) x (line .shift) y)) Kept (Broken Value)))
+    ap (λ (v : Verdict). cond (ltb 0 (line .top)) (Broken (Form (i + 1))) (cond (eqb (line .kind) 0) (Broken (Form (i + 1))) v))
+    (else-same (ltb i (line .left)) (Broken (Operand (i + 1))) (λ e.
+    else-same (ltb i (line .right)) (Broken (Operand (i + 1))) (λ e′.
+    ap₂ (λ (x y : ℕ). cond (eqb (line .coefficient % 2) 0) (Broken (Even (i + 1))) (value-judged (line .coefficient) (i + 1) (gives (kind-of (line .kind)) x (line .shift) y)))
     (hl (ltb-false _ _ e)) (hr (ltb-false _ _ e′)))))
 
--- rules 4 to 6 kept: only the value is left, of which b says whether it is the claimed one
-pub judged-value : (line : Line) (i l r : ℕ) (b : Bool) → line .top ≤ 0 → (line .kind ≡ 0 → ⊥) → line .left ≤ i → line .right ≤ i → (line .coefficient % 2 ≡ 0 → ⊥)
-    → b ≡ claims (line .coefficient) (gives (kind-of (line .kind)) l (line .shift) r) → judged line i l r ≡ cond b Kept (Broken Value)
+-- rules 4 to 6 kept: only the value is left
+pub judged-value : (line : Line) (i l r : ℕ) → line .top ≤ 0 → (line .kind ≡ 0 → ⊥) → line .left ≤ i → line .right ≤ i → (line .coefficient % 2 ≡ 0 → ⊥)
+    → judged line i l r ≡ value-judged (line .coefficient) (i + 1) (gives (kind-of (line .kind)) l (line .shift) r)
 unfolding judged
-judged-value line i l r b top kind left right even e =
-    simp (le-ltb 0 (line .top) top, ne-eqb (line .kind) 0 kind, le-ltb i (line .left) left, le-ltb i (line .right) right, ne-eqb (line .coefficient % 2) 0 even, e)
+judged-value line i l r top kind left right even =
+    simp (le-ltb 0 (line .top) top, ne-eqb (line .kind) 0 kind, le-ltb i (line .left) left, le-ltb i (line .right) right, ne-eqb (line .coefficient % 2) 0 even)
 
 pub judged-seen : (s seen : List ℕ) (line : Line) (i : ℕ) (v : Verdict) → v ≡ judged line i (getD seen (line .left) 0) (getD seen (line .right) 0) → line ≡ line-at s i
     → ((j : ℕ) → j ≤ i → getD seen j 0 ≡ coefficient-at s j) → v ≡ judged-at s i

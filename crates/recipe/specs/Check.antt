@@ -1,5 +1,5 @@
 -- Which recipes are right, and what is wrong with the others (document 01, "Refusal numbers and their order").
-use Prim.Native.Nat.{ℕ, zero, suc, _*_, _/_, _%_}
+use Prim.Native.Nat.{ℕ, zero, suc, _+_, _*_, _/_, _%_}
 use mathlib.Core.Bool.{Bool, false, cond, _||_}
 use mathlib.Core.List.{List}
 use lib.Dec.{eqb, ltb}
@@ -7,18 +7,19 @@ use lib.IntN.{ℤ, pos, negsuc}
 use lib.ListN.{length, take, drop}
 use Rattle.line.specs.Number.{odd-part}
 use Rattle.line.specs.Line.{kind-of, gives, number, line-of}
-use Rattle.line.specs.Refusal.{refusal-number}
+use Rattle.line.specs.Refusal.{nothing, told}
 use Rattle.line.specs.declared.Line.{Line}
+use Rattle.line.specs.declared.Told.{Told}
 use Rattle.line.specs.declared.Refusal.the-variants.{Constant, Length, Form, Operand, Even, Value, Product}
 use Rattle.recipe.specs.declared.Checked.{Checked}
 use Rattle.recipe.specs.declared.Checked.the-variants.{Accepted, Refused}
 use Rattle.recipe.specs.declared.Verdict.{Verdict}
 use Rattle.recipe.specs.declared.Verdict.the-variants.{Kept, Broken}
 
--- document 01's number of an answer; 0 for success
-abbrev pub checked-number : Checked → ℕ
-checked-number Accepted = 0
-checked-number (Refused x) = refusal-number x
+-- the documents' number of an answer, the bad line and the value that it gives; all zero in success
+abbrev pub checked-told : Checked → Told
+checked-told Accepted = nothing
+checked-told (Refused x) = told x
 
 -- ---- the recipe's lines
 
@@ -38,15 +39,20 @@ unfoldable pub claims : ℕ → ℤ → Bool
 claims k (pos n) = eqb k n
 claims k (negsuc n) = false
 
--- what the rules say of line i + 1, whose operands have the coefficients l and r: the first rule that it breaks
+-- what rule 7 says of a line by its number, the claimed coefficient k and the value that it gives
+abbrev pub value-judged : ℕ → ℕ → ℤ → Verdict
+value-judged k number given = cond (claims k given) Kept (Broken (Value number given))
+
+-- what the rules say of line i + 1, whose operands have the coefficients l and r: the first rule that it breaks, with the line's number, and where
+-- that is rule 7 with what the line gives
 unfoldable pub judged : Line → ℕ → ℕ → ℕ → Verdict
 judged line i l r =
-    cond (ltb 0 (line .top)) (Broken Form)
-    (cond (eqb (line .kind) 0) (Broken Form)
-    (cond (ltb i (line .left)) (Broken Operand)
-    (cond (ltb i (line .right)) (Broken Operand)
-    (cond (eqb (line .coefficient % 2) 0) (Broken Even)
-    (cond (claims (line .coefficient) (gives (kind-of (line .kind)) l (line .shift) r)) Kept (Broken Value))))))
+    cond (ltb 0 (line .top)) (Broken (Form (i + 1)))
+    (cond (eqb (line .kind) 0) (Broken (Form (i + 1)))
+    (cond (ltb i (line .left)) (Broken (Operand (i + 1)))
+    (cond (ltb i (line .right)) (Broken (Operand (i + 1)))
+    (cond (eqb (line .coefficient % 2) 0) (Broken (Even (i + 1)))
+    (value-judged (line .coefficient) (i + 1) (gives (kind-of (line .kind)) l (line .shift) r))))))
 
 abbrev pub judged-at : List ℕ → ℕ → Verdict
 judged-at recipe i = judged (line-at recipe i) i (coefficient-at recipe (line-at recipe i .left)) (coefficient-at recipe (line-at recipe i .right))

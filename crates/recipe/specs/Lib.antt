@@ -1,2 +1,3 @@
 pub mod Check
 pub mod Accepted
+pub mod Refused

@@ -1,12 +1,12 @@
 // Which recipes are right: the check of a recipe that anyone proposed.
 
 ghost use mathlib.Core.Path.{_≡_};
-ghost use Prim.Native.Nat.{ℕ, _*_, _<_, _≤_, _^_};
+ghost use Prim.Native.Nat.{ℕ, _<_, _≤_, _^_};
 ghost use lib.ListN.{getD};
-ghost use Rattle.line.specs.Line.{kind-of, gives};
-ghost use Rattle.recipe.specs.Check.{claims, judged, recipe-checked, checked, checked-number};
+ghost use Rattle.recipe.specs.Check.{judged, recipe-checked, checked, checked-told};
 use line::Line;
 use line::Refusal;
+use line::Told;
 
 // What the rules say of one line.
 pub enum Verdict {
@@ -20,43 +20,25 @@ pub enum Checked {
 }
 
 impl Checked {
-    // Document 01's number, 0 for success.
-    pub fn number(self) -> u64
-        ensures { λ r. ⌜ (r ≡ checked-number self) × (r < 100) ⌝ }
+    // The documents' number, the bad line and the value that it gives; all zero in success.
+    pub fn told(self) -> Told
+        ensures { λ r. ⌜ r ≡ checked-told self ⌝ }
     {
         match self {
-            Checked::Accepted => 0,
-            Checked::Refused(x) => x.number(),
+            Checked::Accepted => Told {
+                number: 0,
+                line: 0,
+                value: 0,
+            },
+            Checked::Refused(x) => x.told(),
         }
     }
-}
-
-// A coefficient, shifted.
-fn shifted(a: u64, s: u64) -> u64
-    requires { ⌜ (a < 2 ^ 20) × (s < 32) ⌝ }
-    ensures { λ r. ⌜ (r ≡ a * 2 ^ s) × (r < 2 ^ 52) ⌝ }
-{
-    a << s
-}
-
-// Whether a line's kind gives the coefficient k from the operands' l and r. Sums on both sides, since a difference may be negative.
-fn holds(kind: u64, l: u64, s: u64, r: u64, k: u64) -> bool
-    requires { ⌜ (l < 2 ^ 20) × (s < 32) × (r < 2 ^ 20) × (k < 2 ^ 20) ⌝ }
-    ensures { λ b. ⌜ b ≡ claims k (gives (kind-of kind) l s r) ⌝ }
-{
-    if kind == Line::SPLUS {
-        return k == shifted(l, s) + r;
-    }
-    if kind == Line::SMINUS {
-        return k + r == shifted(l, s);
-    }
-    k + shifted(r, s) == l
 }
 
 // What the rules say of line i + 1, given the coefficients of the operands before it.
 fn judge(line: Line, i: usize, seen: &[u64; Line::MOST_LINES + 1]) -> Verdict
     requires { ⌜ i < 32 ⌝ }
-    requires { ⌜ (line .shift < 32) × (line .coefficient < 2 ^ 20) ⌝ }
+    requires { ⌜ (line .kind < 2 ^ 2) × (line .shift < 2 ^ 5) × (line .coefficient < 2 ^ 20) ⌝ }
     requires { ⌜ ((j : ℕ) → j ≤ i → getD (now seen) j 0 < 2 ^ 20) ⌝ }
     ensures { λ r. ⌜ r ≡ judged line i (getD (now (seen .entry)) (line .left) 0) (getD (now (seen .entry)) (line .right) 0) ⌝ }
 {
@@ -65,25 +47,28 @@ fn judge(line: Line, i: usize, seen: &[u64; Line::MOST_LINES + 1]) -> Verdict
     let left = line.left;
     let right = line.right;
     let coefficient = line.coefficient;
+    let number = i + 1;
     if top > 0 {
-        return Verdict::Broken(Refusal::Form);
+        return Verdict::Broken(Refusal::Form(number));
     }
     if kind == 0 {
-        return Verdict::Broken(Refusal::Form);
+        return Verdict::Broken(Refusal::Form(number));
     }
     if left > i {
-        return Verdict::Broken(Refusal::Operand);
+        return Verdict::Broken(Refusal::Operand(number));
     }
     if right > i {
-        return Verdict::Broken(Refusal::Operand);
+        return Verdict::Broken(Refusal::Operand(number));
     }
     if coefficient % 2 == 0 {
-        return Verdict::Broken(Refusal::Even);
+        return Verdict::Broken(Refusal::Even(number));
     }
-    if holds(kind, seen[left], line.shift, seen[right], coefficient) {
+    let claimed = coefficient as i64;
+    let given = line.gives(seen[left], seen[right]);
+    if claimed == given {
         Verdict::Kept
     } else {
-        Verdict::Broken(Refusal::Value)
+        Verdict::Broken(Refusal::Value(number, given))
     }
 }
 

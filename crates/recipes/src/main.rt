@@ -1,12 +1,14 @@
-// Reads records from standard input, each a constant and a recipe, and writes a letter for each: the number of the check's answer, from 'A' on,
-// 64 letters to a line. A record that the input cuts off gets none.
+// Reads records from standard input, each a constant and a recipe, and prints a line for each: the number of the check's refusal, or 0, the bad line
+// and the value that it gives. A record that the input cuts off gets none.
 
 use libc::STDIN_FILENO;
 use libc::STDOUT_FILENO;
+use line::Told;
+use line::magnitude;
 ghost use mathlib.Core.Path.{_≡_};
 ghost use Prim.Native.Nat.{_≤_, _<_, _^_};
 ghost use lib.ListN.{length};
-ghost use Rattle.recipes.specs.Record.{constant-of, letter-of};
+ghost use Rattle.recipes.specs.Record.{constant-of, told-of};
 
 // More than any input has: the loop has to end.
 const MOST_RECORDS: u64 = 1_000_000_000;
@@ -26,13 +28,28 @@ fn constant(bytes: &[u8]) -> u64
 }
 
 // The answer to a record.
-fn letter(bytes: &[u8]) -> u8
+fn answer(bytes: &[u8]) -> Told
     requires { ⌜ 5 ≤ length (now bytes) ⌝ }
-    ensures { λ r. ⌜ r ≡ letter-of (now (bytes .entry)) ⌝ }
+    ensures { λ r. ⌜ r ≡ told-of (now (bytes .entry)) ⌝ }
 {
     let c = constant(bytes);
-    let answer = recipe::check(c, &bytes[5..]);
-    (65 + answer.number()) as u8
+    recipe::check(c, &bytes[5..]).told()
+}
+
+fn print_signed(z: i64) {
+    if z < 0 {
+        io::write_all(STDOUT_FILENO, b"-");
+    }
+    io::print_decimal(STDOUT_FILENO, magnitude(z));
+}
+
+fn print_line(told: Told) {
+    io::print_decimal(STDOUT_FILENO, told.number);
+    io::write_all(STDOUT_FILENO, b" ");
+    io::print_decimal(STDOUT_FILENO, told.line as u64);
+    io::write_all(STDOUT_FILENO, b" ");
+    print_signed(told.value);
+    io::write_all(STDOUT_FILENO, b"\n");
 }
 
 // The next record, at the front of the room, and its length; 0 where there is none.
@@ -55,22 +72,11 @@ fn read_record(room: &mut [u8]) -> usize
 
 fn main() {
     let mut room = [0u8; 260];
-    let mut letters = [10u8; 65];
-    let mut k: usize = 0;
     for _ in 0..MOST_RECORDS {
         let n = read_record(&mut room);
         if n < 5 {
             break;
         }
-        letters[k] = letter(&room[..n]);
-        k += 1;
-        if k == 64 {
-            io::write_all(STDOUT_FILENO, &letters);
-            k = 0;
-        }
-    }
-    if k > 0 {
-        letters[k] = 10;
-        io::write_all(STDOUT_FILENO, &letters[..k + 1]);
+        print_line(answer(&room[..n]));
     }
 }

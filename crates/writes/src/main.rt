@@ -1,12 +1,13 @@
 // Writes recipes: reads records from standard input until it ends, and prints for each what `write::write` or `write::write_plain` answered.
 // A record is the call (1 byte: 0 document 01's, else that over given literals), c (4 bytes, most significant first), w and the number of
 // literals (1 byte each), the first free number (4), the lengths of the recipe and of the bit room (1 each) and of the clause room (2); then the
-// literals (4 bytes each, two's complement) and the recipe. A line is the refusal's number, words, clauses, next free number, bits of y, and a
-// sum over both rooms.
+// literals (4 bytes each, two's complement) and the recipe. A line is the refusal's number, the bad line and the value that it gives, words,
+// clauses, next free number, bits of y, and a sum over both rooms.
 
 use cnf::named;
 use libc::STDIN_FILENO;
 use libc::STDOUT_FILENO;
+use line::magnitude;
 use product::Written;
 ghost use mathlib.Core.Path.{_≡_};
 ghost use Prim.Native.Nat.{_+_, _*_, _<_, _≤_, _^_};
@@ -49,31 +50,31 @@ fn summed(h: u64, room: &[i32]) -> u64
     sum
 }
 
-fn print_line(refused: u64, words: u64, clauses: u64, next: u64, bits: u64, sum: u64) {
-    io::print_decimal(STDOUT_FILENO, refused);
+// A number and a blank.
+fn print_number(n: u64) {
+    io::print_decimal(STDOUT_FILENO, n);
     io::write_all(STDOUT_FILENO, b" ");
-    io::print_decimal(STDOUT_FILENO, words);
-    io::write_all(STDOUT_FILENO, b" ");
-    io::print_decimal(STDOUT_FILENO, clauses);
-    io::write_all(STDOUT_FILENO, b" ");
-    io::print_decimal(STDOUT_FILENO, next);
-    io::write_all(STDOUT_FILENO, b" ");
-    io::print_decimal(STDOUT_FILENO, bits);
-    io::write_all(STDOUT_FILENO, b" ");
-    io::print_decimal(STDOUT_FILENO, sum);
-    io::write_all(STDOUT_FILENO, b"\n");
+}
+
+fn print_signed(z: i64) {
+    if z < 0 {
+        io::write_all(STDOUT_FILENO, b"-");
+    }
+    print_number(magnitude(z));
 }
 
 fn show(done: Written, sum: u64) {
+    let told = done.told();
+    print_number(told.number);
+    print_number(told.line as u64);
+    print_signed(told.value);
     let n = done.counts();
-    print_line(
-        done.number(),
-        n.words as u64,
-        n.clauses as u64,
-        n.next as u64,
-        n.bits as u64,
-        sum,
-    );
+    print_number(n.words as u64);
+    print_number(n.clauses as u64);
+    print_number(n.next as u64);
+    print_number(n.bits as u64);
+    io::print_decimal(STDOUT_FILENO, sum);
+    io::write_all(STDOUT_FILENO, b"\n");
 }
 
 // Document 01's call, or that over given literals.

@@ -1,9 +1,10 @@
 //! Shared by the tests: lines by hand, rooms, readings of the clause room.
 #![allow(dead_code)] // each test file uses its own part of this
 
+pub mod judged;
 pub mod listed;
 
-use second::Counts;
+use second::{Counts, Refusal};
 
 /// More words than any recipe needs.
 pub const WORDS: usize = 73_728;
@@ -29,6 +30,21 @@ pub fn planned(c: u64) -> Vec<u8> {
     recipe
 }
 
+/// The answer with the refusal's number alone, where that is what a test is about. Line and value are zero wherever the
+/// number has none, whatever the call.
+pub fn numbered<T>(answer: Result<T, Refusal>) -> Result<T, u8> {
+    answer.map_err(|Refusal { number, line, value }| {
+        let of_a_line = (4..=7).contains(&number);
+        assert!(if of_a_line { (1..=32).contains(&line) } else { line == 0 }, "{number} tells line {line}");
+        assert!(number == 7 || value == 0, "{number} tells value {value}");
+        number
+    })
+}
+
+pub fn check(c: u64, recipe: &[u8]) -> Result<(), u8> {
+    numbered(second::check(c, recipe))
+}
+
 /// The rooms after a success, and the counts.
 pub struct Written {
     pub w: u64,
@@ -40,7 +56,7 @@ pub struct Written {
 pub fn written(c: u64, w: u64, recipe: &[u8]) -> Written {
     let (mut bits, mut room) = (vec![0; 32], vec![0; WORDS]);
     let answer = second::write_plain(c, w, recipe, &mut bits, &mut room);
-    let counts = answer.unwrap_or_else(|number| panic!("{c} {w}: {number}"));
+    let counts = answer.unwrap_or_else(|refusal| panic!("{c} {w}: {refusal:?}"));
     bits.truncate(counts.bits);
     room.truncate(counts.words);
     Written { w, counts, bits, room }
@@ -57,7 +73,7 @@ impl Written {
 pub fn written_over(c: u64, x: &[i32], first: u32, recipe: &[u8]) -> Written {
     let (w, mut bits, mut room) = (x.len() as u64, vec![0; 32], vec![0; WORDS]);
     let answer = second::write(c, w, x, first, recipe, &mut bits, &mut room);
-    let counts = answer.unwrap_or_else(|number| panic!("{c} {x:?} {first}: {number}"));
+    let counts = answer.unwrap_or_else(|refusal| panic!("{c} {x:?} {first}: {refusal:?}"));
     bits.truncate(counts.bits);
     room.truncate(counts.words);
     Written { w, counts, bits, room }

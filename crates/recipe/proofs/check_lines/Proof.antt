@@ -63,8 +63,13 @@ judge-requires : tie.Need-judge-requires Inv-loop μ-loop
 judge-requires c κs =
     let e = c .before .read .ensures in
     let l = c .before .before .before .before .loop in
-    let s = c .before .before .before .before .before .before .before .before .args .recipe .now in
-    (omega arith, ((omega (arith, ap (λ (x : Line). x .shift) e), omega (arith, ap (λ (x : Line). x .coefficient) e)), λ j h. omega (arith, l .inv .operands j h, coefficient-lt s j)))
+    let s = c .before .before .before .before .before .before .before .before .args .recipe .now in (
+      omega arith,
+      (
+        (omega (arith, ap (λ (x : Line). x .kind) e), omega (arith, ap (λ (x : Line). x .shift) e), omega (arith, ap (λ (x : Line). x .coefficient) e)),
+        λ j h. omega (arith, l .inv .operands j h, coefficient-lt s j),
+      ),
+    )
 
 enum-told : tie.Need-enum-told Inv-loop μ-loop
 enum-told c = search needs

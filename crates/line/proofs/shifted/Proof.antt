@@ -1,11 +1,11 @@
--- `recipe::shifted` meets its contract: 20 bits shifted by less than 32 stay within 64. Assumes nothing.
+-- `line::shifted` meets its contract: 20 bits shifted by less than 32 stay within 64. Assumes nothing.
 use native.Mathlib.Nat.{lt-of-lt-of-le}
 use native.Mathlib.Omega.{arith}
 use Prim.Native.Nat.{_+_}
 use borrow.Author.Needs.{needs}
 use lib.Pow.{shl-exact, shl-lt, pow-mono}
-use Rattle.recipe.proofs.shifted.Statement.{statement}
-use Rattle.recipe.proofs.shifted.Tie as tie
+use Rattle.line.proofs.shifted.Statement.{statement}
+use Rattle.line.proofs.shifted.Tie as tie
 
 shl-result : tie.Need-shl-result
 shl-result c = search needs
