@@ -1,6 +1,6 @@
-/* Plans 53 and writes it twice at width 8: for a meter whose bits are the panel model's variables 21 to 28, of which 100 are taken, and over
-   the variables 1 to 8. Prints the counts of both, what the first one's clauses alone say of a count of 200 pulses, and which line of a recipe
-   with a slip is bad. */
+/* Plans 53 and writes it twice at width 8: for a meter whose bits are the panel model's variables 21 to 28, of which 100 are taken, and
+   over the variables 1 to 8. Prints the counts of both, what the first one's clauses alone say of a count of 200 pulses, and which line of
+   a recipe with a slip is bad. */
 #include <inttypes.h>
 #include <stdio.h>
 
@@ -72,11 +72,11 @@ int main(void) {
     }
     size_t length = LADLEBEAN_LINE_BYTES * lines;
     if (refuses(ladlebean_check(53, recipe, length, &t.line, &t.value), recipe, &t)) return 1;
-    refused = ladlebean_write(53, 8, meter, 8, 101, recipe, length, bits, LADLEBEAN_BITS, words, LADLEBEAN_WORDS, &t.words, &t.clauses, &t.next,
-                              &t.bits, &t.line, &t.value);
+    refused = ladlebean_write(53, 8, meter, 8, 101, recipe, length, bits, LADLEBEAN_BITS, words, LADLEBEAN_WORDS,
+                              &t.words, &t.clauses, &t.next, &t.bits, &t.line, &t.value);
     if (show(refused, "21 to 28", &t) || read_off(200, &t)) return 1;
-    refused = ladlebean_write_plain(53, 8, recipe, length, bits, LADLEBEAN_BITS, words, LADLEBEAN_WORDS, &t.words, &t.clauses, &t.next, &t.bits,
-                                    &t.line, &t.value);
+    refused = ladlebean_write_plain(53, 8, recipe, length, bits, LADLEBEAN_BITS, words, LADLEBEAN_WORDS,
+                                    &t.words, &t.clauses, &t.next, &t.bits, &t.line, &t.value);
     if (show(refused, "1 to 8", &t)) return 1;
     return !refuses(ladlebean_check(49, slip, sizeof slip, &t.line, &t.value), slip, &t);
 }

@@ -1,10 +1,11 @@
 /* Constant products as SAT clauses: the archive's entry points (target/staticlib/libladlebean.a, by `rt staticlib ladlebean`; x86-64).
 
-   Each call answers 0, or the number of its refusal (docs/REFUSALS.md), and leaves each field of its answer where a pointer says: one number each, written
-   in success and in every refusal. A refusal leaves every room as it came and every count 0. `*line` and `*value` are 0 but in a refusal of a recipe's
-   line, 4 to 7: there `*line` is the first bad line's number, from 1, and in a 7 `*value` is what this line really gives, which may be negative. No call
-   has any condition: every c, w, x, first, recipe, list of words and room is taken. Rooms and fields must not overlap, and each pointer must be good for
-   its length; with length 0 it is not read. */
+   Each call answers 0, or the number of its refusal (docs/REFUSALS.md), and leaves each field of its answer where a pointer says: one
+   number each, written in success and in every refusal, so none may be null. A refusal leaves every room as it came and every count 0.
+   `*line` and `*value` are 0 but in a refusal of a recipe's line, 4 to 7: there `*line` is the first bad line's number, from 1, and in a 7
+   `*value` is what this line really gives, which may be negative. No call has any other condition: every c, w, x, first, recipe, list of
+   words and room is taken. Rooms and fields must not overlap, and each room's pointer must be good for its length; with length 0 it is
+   not read. */
 #ifndef LADLEBEAN_H
 #define LADLEBEAN_H
 

@@ -64,8 +64,8 @@ mod archive {
     }
 }
 
-/// Why a call refused (docs/REFUSALS.md): the documents' number; in 4 to 7 the first bad line of the recipe, from 1; and in a 7 what this line really gives
-/// and what it claims. Everything else is zero.
+/// Why a call refused (docs/REFUSALS.md): the documents' number; in 4 to 7 the first bad line of the recipe, from 1; and in a 7 what this
+/// line really gives and what it claims. Everything else is zero.
 #[derive(Clone, Copy, Debug, PartialEq, Eq)]
 pub struct Refusal {
     pub number: u64,

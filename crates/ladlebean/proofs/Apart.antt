@@ -1,50 +1,28 @@
--- What the entry points of writing tell, from what writing left and from what is told of its answer. Assumes nothing.
+-- What the entry points of writing leave, from what writing left and from what is told of its answer; it is one. Assumes nothing.
 use Prim.Native.Nat.{ℕ}
-use mathlib.Core.Path.{_≡_, ap, _∙_}
+use mathlib.Core.Path.{_≡_, sym, _∙_, subst}
 use mathlib.Core.List.{List}
 use lib.IntN.{ℤ}
-use Rattle.product.specs.Write.{Outcome, written-told, written-number, words-used, clauses-written, next-free, bits-of-y}
+use Rattle.product.specs.Write.{Outcome}
 use Rattle.product.specs.declared.Written.{Written}
+use Rattle.ladlebean.specs.Archive.{Fields, Apart}
 
--- the fields of an answer, each a number of its own
-abbrev Fields : Written → ℕ → ℕ → ℕ → ℕ → ℕ → ℕ → ℤ → Type 0
-Fields a number words count next size line value =
-    (number ≡ written-number a)
-    × ((words ≡ words-used a)
-    × ((count ≡ clauses-written a)
-    × ((next ≡ next-free a) × ((size ≡ bits-of-y a) × ((line ≡ written-told a .line) × (value ≡ written-told a .value))))))
+module _ {o : Outcome} {n : ℕ} {b c : List ℤ} {w k f s l : ℕ} {v : ℤ} where
+  pub apart : {a : Written} → a ≡ o .answer → b ≡ o .bits → c ≡ o .clauses → Fields a n w k f s l v → Apart o n b c w k f s l v
+  apart e p q r = record { bit-room = p; clause-room = q; fields = subst (λ (x : Written). Fields x n w k f s l v) e r }
 
-module _ {o : Outcome} {a : Written} {bits clauses : List ℤ} {number words count next size line : ℕ} {value : ℤ} where
-  pub apart : a ≡ o .answer → bits ≡ o .bits → clauses ≡ o .clauses → Fields a number words count next size line value
-      → (number ≡ written-number (o .answer))
-      × ((bits ≡ o .bits)
-      × ((clauses ≡ o .clauses)
-      × ((words ≡ words-used (o .answer))
-      × ((count ≡ clauses-written (o .answer))
-      × ((next ≡ next-free (o .answer))
-      × ((size ≡ bits-of-y (o .answer)) × ((line ≡ written-told (o .answer) .line) × (value ≡ written-told (o .answer) .value))))))))
-  apart e b c f = (
-    f .0 ∙ ap written-number e,
-    (
-      b,
-      (
-        c,
-        (
-          f .1 .0 ∙ ap words-used e,
-          (
-            f .1 .1 .0 ∙ ap clauses-written e,
-            (
-              f .1 .1 .1 .0 ∙ ap next-free e,
-              (
-                f .1 .1 .1 .1 .0 ∙ ap bits-of-y e,
-                (
-                  f .1 .1 .1 .1 .1 .0 ∙ ap (λ (k : Written). written-told k .line) e,
-                  f .1 .1 .1 .1 .1 .1 ∙ ap (λ (k : Written). written-told k .value) e,
-                ),
-              ),
-            ),
-          ),
-        ),
-      ),
-    ),
-  )
+  pub apart-once : {n′ : ℕ} {b′ c′ : List ℤ} {w′ k′ f′ s′ l′ : ℕ} {v′ : ℤ} → Apart o n b c w k f s l v → Apart o n′ b′ c′ w′ k′ f′ s′ l′ v′
+      → (n ≡ n′) × (b ≡ b′) × (c ≡ c′) × (w ≡ w′) × (k ≡ k′) × (f ≡ f′) × (s ≡ s′) × (l ≡ l′) × (v ≡ v′)
+  apart-once p q =
+      let x = p .fields in
+      let y = q .fields in (
+        x .number-told ∙ sym (y .number-told),
+        p .bit-room ∙ sym (q .bit-room),
+        p .clause-room ∙ sym (q .clause-room),
+        x .words-told ∙ sym (y .words-told),
+        x .clauses-told ∙ sym (y .clauses-told),
+        x .next-told ∙ sym (y .next-told),
+        x .bits-told ∙ sym (y .bits-told),
+        x .line-told ∙ sym (y .line-told),
+        x .value-told ∙ sym (y .value-told),
+      )

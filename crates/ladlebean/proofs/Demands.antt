@@ -8,11 +8,12 @@
 -- exactly where they say: that is the text of the three functions. A refusal writes nothing (`planning-refused`, `writing-refused`): where the
 -- answer is a refusal, whichever it is, each room at exit is what it was.
 --
--- A refusal by a rule of a line, 4 to 7, tells which line and what it gives (document 02 c): every line before it is right, it breaks the rule that the number
--- names and none before that one, and the value of a 7 is what its kind gives from the operands' claimed coefficients, so that it differs from the claim;
--- in checking (`bad-line-told`) and in writing (`bad-line-told-writing`). Of a recipe that has a bad line nothing else can be told
--- (`told-of-bad-line`), and writing tells what checking tells (`refusals-coincide`). The value has at most 52 bits with its sign (`value-fits`). Every
--- other refusal tells a number alone, with line and value zero (`number-alone`), as planning's do (`planning-number-alone`); and success tells three zeros by definition (`nothing`).
+-- A refusal by a rule of a line, 4 to 7, tells which line and what it gives (document 02 c): every line before it is right, it breaks the
+-- rule that the number names and none before that one, and the value of a 7 is what its kind gives from the operands' claimed
+-- coefficients, so that it differs from the claim; in checking (`bad-line-told`) and in writing (`bad-line-told-writing`). Of a recipe
+-- that has a bad line nothing else can be told (`told-of-bad-line`), and writing tells what checking tells (`refusals-coincide`). The
+-- value has at most 52 bits with its sign (`value-fits`). Every other refusal tells a number alone, with line and value zero
+-- (`number-alone`), as planning's do (`planning-number-alone`); and success tells three zeros by definition (`nothing`).
 --
 -- Demand 2. A recipe is accepted exactly when it is right (`accepted-exactly`): c is in range, there are at most 32 lines of five bytes,
 -- each line has the form, names earlier operands, claims an odd coefficient and exactly the one that its kind gives, and the product is c's
@@ -83,7 +84,8 @@ use Rattle.plan.proofs.Accepts as plan-laws
 use Rattle.plan.proofs.Accepts.{planned-accepted, planned-claims, planned-lines-half, planned-lines-form, planned-bits}
 use Rattle.product.specs.Product.{Product, product-of, clause-words}
 use Rattle.product.specs.Bit.{numbered}
-use Rattle.product.specs.Write.{not-a-width, not-literals, most-next, written, write-by, write-answer, plain-answer, written-told, written-number, clauses-written, next-free, y-length}
+use Rattle.product.specs.Write.{not-a-width, not-literals, most-next, written, write-by, write-answer, plain-answer, y-length}
+use Rattle.product.specs.Write.{written-told, written-number, clauses-written, next-free}
 use Rattle.product.specs.Demand.{Demand-2, Plain-demand-2, Result, words-at-exit, entries-at-exit, Opened, Renamed}
 use Rattle.product.specs.declared.Written.{Written}
 use Rattle.product.specs.declared.Written.the-variants as write-answers
@@ -133,19 +135,20 @@ writing-refused c w x first recipe bits clauses r e =
 
 -- ---- which line is bad
 
-pub bad-line-told : (c : ℕ) (recipe : List ℕ) (r : Refusal) → checked c recipe ≡ Refused r → 4 ≤ refusal-number r → refusal-number r ≤ 7 → First-bad recipe (told r)
+pub bad-line-told : (c : ℕ) (recipe : List ℕ) (r : Refusal) → checked c recipe ≡ Refused r
+    → 4 ≤ refusal-number r → refusal-number r ≤ 7 → First-bad recipe (told r)
 bad-line-told c recipe = refused-first-bad recipe c
 
-pub told-of-bad-line : (c : ℕ) (recipe : List ℕ) → 1 ≤ c → c ≤ 65535 → length recipe % 5 ≡ 0 → length recipe ≤ 160 → (t : Told) → First-bad recipe t
-    → checked-told (checked c recipe) ≡ t
+pub told-of-bad-line : (c : ℕ) (recipe : List ℕ) → 1 ≤ c → c ≤ 65535 → length recipe % 5 ≡ 0 → length recipe ≤ 160
+    → (t : Told) → First-bad recipe t → checked-told (checked c recipe) ≡ t
 told-of-bad-line c recipe = first-bad-told recipe c
 
 pub value-fits : (recipe : List ℕ) (t : Told) → First-bad recipe t → natAbs (t .value) < 2 ^ 51
 value-fits = value-bits
 
 module _ (c w : ℕ) (x : List ℤ) (first : ℕ) (recipe : List ℕ) (bits clauses : List ℤ) (r : Refusal) where
-  pub bad-line-told-writing : written c w x first recipe bits clauses .answer ≡ write-answers.Refused r → 4 ≤ refusal-number r → refusal-number r ≤ 7
-      → First-bad recipe (told r)
+  pub bad-line-told-writing : written c w x first recipe bits clauses .answer ≡ write-answers.Refused r
+      → 4 ≤ refusal-number r → refusal-number r ≤ 7 → First-bad recipe (told r)
   bad-line-told-writing e h h′ =
       subst (λ (a : Written). Spoken recipe (written-told a)) (sym (answer-of c w x first recipe bits clauses) ∙ e)
       (writing-spoken c w x first recipe (length bits) (length clauses)) (h, h′)
@@ -153,7 +156,8 @@ module _ (c w : ℕ) (x : List ℤ) (first : ℕ) (recipe : List ℕ) (bits clau
   pub refusals-coincide : 1 ≤ c → c ≤ 65535 → not-a-width w ≡ false → not-literals w x first ≡ false → checked c recipe ≡ Refused r
       → written c w x first recipe bits clauses .answer ≡ write-answers.Refused r
   refusals-coincide least most width literals e =
-      answer-of c w x first recipe bits clauses ∙ refused-alike c w x first recipe (length bits) (length clauses) least most width literals r e
+      answer-of c w x first recipe bits clauses
+      ∙ refused-alike c w x first recipe (length bits) (length clauses) least most width literals r e
 
 -- no line and no value is told
 abbrev Number-alone : Refusal → Type 0
@@ -178,7 +182,8 @@ plan-by-answer : (t : ℕ → ℕ) (a : plan-types.Planned) (c : ℕ) (work reci
 plan-by-answer t (plan-answers.Lines n) c work recipe = refl
 plan-by-answer t (plan-answers.Refused x) c work recipe = refl
 
-pub planning-number-alone : (c : ℕ) (work recipe : List ℕ) (r : Refusal) → planned c work recipe .answer ≡ plan-answers.Refused r → Number-alone r
+pub planning-number-alone : (c : ℕ) (work recipe : List ℕ) (r : Refusal)
+    → planned c work recipe .answer ≡ plan-answers.Refused r → Number-alone r
 unfolding planned plan.plan-outcome
 planning-number-alone c work recipe r e =
     let a = plan-answer split-of c (length work) (length recipe) in

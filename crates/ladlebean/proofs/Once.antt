@@ -64,6 +64,7 @@ use Rattle.write.proofs.write.Kinds as WriteKinds
 use Rattle.write.proofs.write.Reads as Write
 use Rattle.dimacs.proofs.file.Kinds as FileKinds
 use Rattle.dimacs.proofs.file.Reads as File
+use Rattle.ladlebean.proofs.Apart.{apart-once}
 use Rattle.ladlebean.proofs.ladlebean_check.Kinds as ArchiveCheckKinds
 use Rattle.ladlebean.proofs.ladlebean_check.Reads as ArchiveCheck
 use Rattle.ladlebean.proofs.ladlebean_plan.Kinds as ArchivePlanKinds
@@ -160,17 +161,38 @@ write-plain-once κs a x y e f p q = (p .0 ∙ sym (q .0), p .1 .0 ∙ sym (q .1
 pub file-once : Coincide FileKinds.ps FileKinds.r File.Learnt (λ κs x y e f. (x ≡ y) × (now (e .1 .0) ≡ now (f .1 .0)))
 file-once κs a x y e f p q = (p .0 ∙ sym (q .0), p .1 ∙ sym (q .1))
 
-pub archive-check-once : Coincide ArchiveCheckKinds.ps ArchiveCheckKinds.r ArchiveCheck.Learnt (λ κs x y e f. (x ≡ y) × (now (e .1 .1 .0) ≡ now (f .1 .1 .0)) × (now (e .1 .1 .1 .0) ≡ now (f .1 .1 .1 .0)))
+pub archive-check-once : Coincide ArchiveCheckKinds.ps ArchiveCheckKinds.r ArchiveCheck.Learnt (λ κs x y e f.
+    (x ≡ y)
+    × (now (e .1 .1 .0) ≡ now (f .1 .1 .0))
+    × (now (e .1 .1 .1 .0) ≡ now (f .1 .1 .1 .0)))
 archive-check-once κs a x y e f p q = (p .0 ∙ sym (q .0), p .1 .0 ∙ sym (q .1 .0), p .1 .1 ∙ sym (q .1 .1))
 
 pub archive-plan-once : Coincide ArchivePlanKinds.ps ArchivePlanKinds.r ArchivePlan.Learnt (λ κs x y e f. (x ≡ y) × (now (e .1 .0) ≡ now (f .1 .0)) × (now (e .1 .1 .0) ≡ now (f .1 .1 .0)) × (now (e .1 .1 .1 .0) ≡ now (f .1 .1 .1 .0)))
 archive-plan-once κs a x y e f p q = (p .0 ∙ sym (q .0), p .1 .0 ∙ sym (q .1 .0), p .1 .1 .0 ∙ sym (q .1 .1 .0), p .1 .1 .1 ∙ sym (q .1 .1 .1))
 
-pub archive-write-once : Coincide ArchiveWriteKinds.ps ArchiveWriteKinds.r ArchiveWrite.Learnt (λ κs x y e f. (x ≡ y) × (now (e .1 .1 .1 .1 .1 .0) ≡ now (f .1 .1 .1 .1 .1 .0)) × (now (e .1 .1 .1 .1 .1 .1 .0) ≡ now (f .1 .1 .1 .1 .1 .1 .0)) × (now (e .1 .1 .1 .1 .1 .1 .1 .0) ≡ now (f .1 .1 .1 .1 .1 .1 .1 .0)) × (now (e .1 .1 .1 .1 .1 .1 .1 .1 .0) ≡ now (f .1 .1 .1 .1 .1 .1 .1 .1 .0)) × (now (e .1 .1 .1 .1 .1 .1 .1 .1 .1 .0) ≡ now (f .1 .1 .1 .1 .1 .1 .1 .1 .1 .0)) × (now (e .1 .1 .1 .1 .1 .1 .1 .1 .1 .1 .0) ≡ now (f .1 .1 .1 .1 .1 .1 .1 .1 .1 .1 .0)) × (now (e .1 .1 .1 .1 .1 .1 .1 .1 .1 .1 .1 .0) ≡ now (f .1 .1 .1 .1 .1 .1 .1 .1 .1 .1 .1 .0)) × (now (e .1 .1 .1 .1 .1 .1 .1 .1 .1 .1 .1 .1 .0) ≡ now (f .1 .1 .1 .1 .1 .1 .1 .1 .1 .1 .1 .1 .0)))
-archive-write-once κs a x y e f p q = (p .0 ∙ sym (q .0), p .1 .0 ∙ sym (q .1 .0), p .1 .1 .0 ∙ sym (q .1 .1 .0), p .1 .1 .1 .0 ∙ sym (q .1 .1 .1 .0), p .1 .1 .1 .1 .0 ∙ sym (q .1 .1 .1 .1 .0), p .1 .1 .1 .1 .1 .0 ∙ sym (q .1 .1 .1 .1 .1 .0), p .1 .1 .1 .1 .1 .1 .0 ∙ sym (q .1 .1 .1 .1 .1 .1 .0), p .1 .1 .1 .1 .1 .1 .1 .0 ∙ sym (q .1 .1 .1 .1 .1 .1 .1 .0), p .1 .1 .1 .1 .1 .1 .1 .1 ∙ sym (q .1 .1 .1 .1 .1 .1 .1 .1))
+pub archive-write-once : Coincide ArchiveWriteKinds.ps ArchiveWriteKinds.r ArchiveWrite.Learnt (λ κs x y e f.
+    (x ≡ y)
+    × (now (e .1 .1 .1 .1 .1 .0) ≡ now (f .1 .1 .1 .1 .1 .0))
+    × (now (e .1 .1 .1 .1 .1 .1 .0) ≡ now (f .1 .1 .1 .1 .1 .1 .0))
+    × (now (e .1 .1 .1 .1 .1 .1 .1 .0) ≡ now (f .1 .1 .1 .1 .1 .1 .1 .0))
+    × (now (e .1 .1 .1 .1 .1 .1 .1 .1 .0) ≡ now (f .1 .1 .1 .1 .1 .1 .1 .1 .0))
+    × (now (e .1 .1 .1 .1 .1 .1 .1 .1 .1 .0) ≡ now (f .1 .1 .1 .1 .1 .1 .1 .1 .1 .0))
+    × (now (e .1 .1 .1 .1 .1 .1 .1 .1 .1 .1 .0) ≡ now (f .1 .1 .1 .1 .1 .1 .1 .1 .1 .1 .0))
+    × (now (e .1 .1 .1 .1 .1 .1 .1 .1 .1 .1 .1 .0) ≡ now (f .1 .1 .1 .1 .1 .1 .1 .1 .1 .1 .1 .0))
+    × (now (e .1 .1 .1 .1 .1 .1 .1 .1 .1 .1 .1 .1 .0) ≡ now (f .1 .1 .1 .1 .1 .1 .1 .1 .1 .1 .1 .1 .0)))
+archive-write-once κs a x y e f p q = apart-once p q
 
-pub archive-write-plain-once : Coincide ArchiveWritePlainKinds.ps ArchiveWritePlainKinds.r ArchiveWritePlain.Learnt (λ κs x y e f. (x ≡ y) × (now (e .1 .1 .1 .0) ≡ now (f .1 .1 .1 .0)) × (now (e .1 .1 .1 .1 .0) ≡ now (f .1 .1 .1 .1 .0)) × (now (e .1 .1 .1 .1 .1 .0) ≡ now (f .1 .1 .1 .1 .1 .0)) × (now (e .1 .1 .1 .1 .1 .1 .0) ≡ now (f .1 .1 .1 .1 .1 .1 .0)) × (now (e .1 .1 .1 .1 .1 .1 .1 .0) ≡ now (f .1 .1 .1 .1 .1 .1 .1 .0)) × (now (e .1 .1 .1 .1 .1 .1 .1 .1 .0) ≡ now (f .1 .1 .1 .1 .1 .1 .1 .1 .0)) × (now (e .1 .1 .1 .1 .1 .1 .1 .1 .1 .0) ≡ now (f .1 .1 .1 .1 .1 .1 .1 .1 .1 .0)) × (now (e .1 .1 .1 .1 .1 .1 .1 .1 .1 .1 .0) ≡ now (f .1 .1 .1 .1 .1 .1 .1 .1 .1 .1 .0)))
-archive-write-plain-once κs a x y e f p q = (p .0 ∙ sym (q .0), p .1 .0 ∙ sym (q .1 .0), p .1 .1 .0 ∙ sym (q .1 .1 .0), p .1 .1 .1 .0 ∙ sym (q .1 .1 .1 .0), p .1 .1 .1 .1 .0 ∙ sym (q .1 .1 .1 .1 .0), p .1 .1 .1 .1 .1 .0 ∙ sym (q .1 .1 .1 .1 .1 .0), p .1 .1 .1 .1 .1 .1 .0 ∙ sym (q .1 .1 .1 .1 .1 .1 .0), p .1 .1 .1 .1 .1 .1 .1 .0 ∙ sym (q .1 .1 .1 .1 .1 .1 .1 .0), p .1 .1 .1 .1 .1 .1 .1 .1 ∙ sym (q .1 .1 .1 .1 .1 .1 .1 .1))
+pub archive-write-plain-once : Coincide ArchiveWritePlainKinds.ps ArchiveWritePlainKinds.r ArchiveWritePlain.Learnt (λ κs x y e f.
+    (x ≡ y)
+    × (now (e .1 .1 .1 .0) ≡ now (f .1 .1 .1 .0))
+    × (now (e .1 .1 .1 .1 .0) ≡ now (f .1 .1 .1 .1 .0))
+    × (now (e .1 .1 .1 .1 .1 .0) ≡ now (f .1 .1 .1 .1 .1 .0))
+    × (now (e .1 .1 .1 .1 .1 .1 .0) ≡ now (f .1 .1 .1 .1 .1 .1 .0))
+    × (now (e .1 .1 .1 .1 .1 .1 .1 .0) ≡ now (f .1 .1 .1 .1 .1 .1 .1 .0))
+    × (now (e .1 .1 .1 .1 .1 .1 .1 .1 .0) ≡ now (f .1 .1 .1 .1 .1 .1 .1 .1 .0))
+    × (now (e .1 .1 .1 .1 .1 .1 .1 .1 .1 .0) ≡ now (f .1 .1 .1 .1 .1 .1 .1 .1 .1 .0))
+    × (now (e .1 .1 .1 .1 .1 .1 .1 .1 .1 .1 .0) ≡ now (f .1 .1 .1 .1 .1 .1 .1 .1 .1 .1 .0)))
+archive-write-plain-once κs a x y e f p q = apart-once p q
 
 pub propagated-number-once : Answers PropagatedNumberKinds.ps PropagatedNumberKinds.r PropagatedNumber.Learnt
 propagated-number-once κs a x y e f p q = p .0 ∙ sym (q .0)

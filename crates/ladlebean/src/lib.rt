@@ -1,11 +1,12 @@
-// The archive for C: plan, check, write and one pass over words, over numbers and slices. A slice passes as a pointer and a length; each field of an
-// answer has a pointer to one number, and the refusal's number is the result.
+// The archive for C: plan, check, write and one pass over words, over numbers and slices. A slice passes as a pointer and a length; each
+// field of an answer has a pointer to one number, and the refusal's number is the result.
 
 ghost use mathlib.Core.Path.{_≡_};
 ghost use Rattle.plan.specs.Plan.{planned, planned-number, planned-lines};
 ghost use Rattle.recipe.specs.Check.{checked, checked-told};
-ghost use Rattle.product.specs.Write.{written, plain-written, written-told, written-number, words-used, clauses-written, next-free, bits-of-y};
+ghost use Rattle.product.specs.Write.{written, plain-written};
 ghost use Rattle.propagate.specs.Pass.{propagated, propagated-number, clauses-read};
+ghost use Rattle.ladlebean.specs.Archive.{Fields, Apart};
 use line::Told;
 use product::Written;
 
@@ -32,8 +33,8 @@ pub extern "C" fn ladlebean_plan(c: u64, work: &mut [u8], recipe: &mut [u8], lin
     planned.number()
 }
 
-// Writes the clauses of a recipe for c at width w, where x is w literals and first the first free number: 0, or the refusal's number, with the
-// words used, the clauses, the next free number, the bits of y, the bad line and the value that it gives.
+// Writes the clauses of a recipe for c at width w, where x is w literals and first the first free number: 0, or the refusal's number,
+// with the words used, the clauses, the next free number, the bits of y, the bad line and the value that it gives.
 #[no_mangle]
 pub extern "C" fn ladlebean_write(
     c: u64,
@@ -50,15 +51,9 @@ pub extern "C" fn ladlebean_write(
     line: &mut u64,
     value: &mut i64,
 ) -> u64
-    ensures { λ r. ⌜ r ≡ written-number (written c w (now (x .entry)) first (now (recipe .entry)) (now (bits .entry)) (now (clauses .entry)) .answer) ⌝ }
-    ensures { λ _. ⌜ now (bits .exit) ≡ written c w (now (x .entry)) first (now (recipe .entry)) (now (bits .entry)) (now (clauses .entry)) .bits ⌝ }
-    ensures { λ _. ⌜ now (clauses .exit) ≡ written c w (now (x .entry)) first (now (recipe .entry)) (now (bits .entry)) (now (clauses .entry)) .clauses ⌝ }
-    ensures { λ _. ⌜ now (words .exit) ≡ words-used (written c w (now (x .entry)) first (now (recipe .entry)) (now (bits .entry)) (now (clauses .entry)) .answer) ⌝ }
-    ensures { λ _. ⌜ now (count .exit) ≡ clauses-written (written c w (now (x .entry)) first (now (recipe .entry)) (now (bits .entry)) (now (clauses .entry)) .answer) ⌝ }
-    ensures { λ _. ⌜ now (next .exit) ≡ next-free (written c w (now (x .entry)) first (now (recipe .entry)) (now (bits .entry)) (now (clauses .entry)) .answer) ⌝ }
-    ensures { λ _. ⌜ now (size .exit) ≡ bits-of-y (written c w (now (x .entry)) first (now (recipe .entry)) (now (bits .entry)) (now (clauses .entry)) .answer) ⌝ }
-    ensures { λ _. ⌜ now (line .exit) ≡ written-told (written c w (now (x .entry)) first (now (recipe .entry)) (now (bits .entry)) (now (clauses .entry)) .answer) .line ⌝ }
-    ensures { λ _. ⌜ now (value .exit) ≡ written-told (written c w (now (x .entry)) first (now (recipe .entry)) (now (bits .entry)) (now (clauses .entry)) .answer) .value ⌝ }
+    ensures { λ r. ⌜ Apart (written c w (now (x .entry)) first (now (recipe .entry)) (now (bits .entry)) (now (clauses .entry))) r
+        (now (bits .exit)) (now (clauses .exit)) (now (words .exit)) (now (count .exit)) (now (next .exit)) (now (size .exit))
+        (now (line .exit)) (now (value .exit)) ⌝ }
 {
     let written = write::write(c, w, x, first, recipe, bits, clauses);
     tell_written(written, words, count, next, size, line, value)
@@ -79,15 +74,9 @@ pub extern "C" fn ladlebean_write_plain(
     line: &mut u64,
     value: &mut i64,
 ) -> u64
-    ensures { λ r. ⌜ r ≡ written-number (plain-written c w (now (recipe .entry)) (now (bits .entry)) (now (clauses .entry)) .answer) ⌝ }
-    ensures { λ _. ⌜ now (bits .exit) ≡ plain-written c w (now (recipe .entry)) (now (bits .entry)) (now (clauses .entry)) .bits ⌝ }
-    ensures { λ _. ⌜ now (clauses .exit) ≡ plain-written c w (now (recipe .entry)) (now (bits .entry)) (now (clauses .entry)) .clauses ⌝ }
-    ensures { λ _. ⌜ now (words .exit) ≡ words-used (plain-written c w (now (recipe .entry)) (now (bits .entry)) (now (clauses .entry)) .answer) ⌝ }
-    ensures { λ _. ⌜ now (count .exit) ≡ clauses-written (plain-written c w (now (recipe .entry)) (now (bits .entry)) (now (clauses .entry)) .answer) ⌝ }
-    ensures { λ _. ⌜ now (next .exit) ≡ next-free (plain-written c w (now (recipe .entry)) (now (bits .entry)) (now (clauses .entry)) .answer) ⌝ }
-    ensures { λ _. ⌜ now (size .exit) ≡ bits-of-y (plain-written c w (now (recipe .entry)) (now (bits .entry)) (now (clauses .entry)) .answer) ⌝ }
-    ensures { λ _. ⌜ now (line .exit) ≡ written-told (plain-written c w (now (recipe .entry)) (now (bits .entry)) (now (clauses .entry)) .answer) .line ⌝ }
-    ensures { λ _. ⌜ now (value .exit) ≡ written-told (plain-written c w (now (recipe .entry)) (now (bits .entry)) (now (clauses .entry)) .answer) .value ⌝ }
+    ensures { λ r. ⌜ Apart (plain-written c w (now (recipe .entry)) (now (bits .entry)) (now (clauses .entry))) r
+        (now (bits .exit)) (now (clauses .exit)) (now (words .exit)) (now (count .exit)) (now (next .exit)) (now (size .exit))
+        (now (line .exit)) (now (value .exit)) ⌝ }
 {
     let written = write::write_plain(c, w, recipe, bits, clauses);
     tell_written(written, words, count, next, size, line, value)
@@ -133,13 +122,8 @@ fn tell_written(
     line: &mut u64,
     value: &mut i64,
 ) -> u64
-    ensures { λ r. ⌜ r ≡ written-number written ⌝ }
-    ensures { λ _. ⌜ now (words .exit) ≡ words-used written ⌝ }
-    ensures { λ _. ⌜ now (count .exit) ≡ clauses-written written ⌝ }
-    ensures { λ _. ⌜ now (next .exit) ≡ next-free written ⌝ }
-    ensures { λ _. ⌜ now (size .exit) ≡ bits-of-y written ⌝ }
-    ensures { λ _. ⌜ now (line .exit) ≡ written-told written .line ⌝ }
-    ensures { λ _. ⌜ now (value .exit) ≡ written-told written .value ⌝ }
+    ensures { λ r. ⌜ Fields written r (now (words .exit)) (now (count .exit)) (now (next .exit)) (now (size .exit)) (now (line .exit))
+        (now (value .exit)) ⌝ }
 {
     let counts = written.counts();
     *words = counts.words as u64;

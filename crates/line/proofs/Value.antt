@@ -1,5 +1,5 @@
--- What a kind gives. As sums: a difference that may be negative is k exactly where k and the subtrahend make the minuend. From a code number; and how
--- large it can be: with its sign it has at most 52 bits. Assumes nothing.
+-- What a kind gives. As sums: a difference that may be negative is k exactly where k and the subtrahend make the minuend. From a code
+-- number; and how large it can be: with its sign it has at most 52 bits. Assumes nothing.
 use mathlib.Core.Path.{_≡_, refl, sym, ap, _∙_}
 use mathlib.Core.Bool.{Bool, true, false, cond}
 use Prim.Native.Nat.{ℕ, zero, suc, _+_, _-_, _*_, _%_, _<_, _≤_, _^_}
@@ -9,7 +9,7 @@ use lib.Dec.{ltb}
 use lib.IntN.{ℤ, pos, negsuc, _+ℤ_, _-ℤ_, natAbs, +ℤ-negℤ-cancel, -ℤ-+ℤ-cancel}
 use lib.Pow.{pow-mono}
 use borrow.Author.Tests.{ltb-true, ltb-false, ne-eqb}
-use Rattle.line.specs.Line.{Kind, splus, sminus, minuss, kind-of, gives, line-gives}
+use Rattle.line.specs.Line.{Kind, splus, sminus, minuss, kind-of, gives, line-gives, gives-within}
 use Rattle.line.specs.declared.Line.{Line}
 
 pub sum-of-difference : (k a b : ℕ) → pos k ≡ pos a -ℤ pos b → k + b ≡ a
@@ -52,9 +52,9 @@ module _ (kind l s r x : ℕ) where
   gives-minuss n m e = rw (ne-eqb kind 1 n, ne-eqb kind 2 m, e) refl
 
 -- fields and coefficients that have no more bits than the form gives them
-pub line-gives-whole : (line : Line) (l r : ℕ) → line .kind < 2 ^ 2 → line .shift < 2 ^ 5 → l < 2 ^ 20 → r < 2 ^ 20
-    → line-gives line l r ≡ gives (kind-of (line .kind)) l (line .shift) r
-line-gives-whole line l r hk hs hl hr =
+pub gives-whole : (line : Line) (l r : ℕ) → line .kind < 2 ^ 2 → line .shift < 2 ^ 5 → l < 2 ^ 20 → r < 2 ^ 20
+    → gives-within line l r ≡ line-gives line l r
+gives-whole line l r hk hs hl hr =
     let k : line .kind % 2 ^ 2 ≡ line .kind = omega arith in
     let s : line .shift % 2 ^ 5 ≡ line .shift = omega arith in
     let a : l % 2 ^ 20 ≡ l = omega arith in

@@ -22,9 +22,13 @@ gives splus l s r = pos (l * 2 ^ s + r)
 gives sminus l s r = pos (l * 2 ^ s) -ℤ pos r
 gives minuss l s r = pos l -ℤ pos (r * 2 ^ s)
 
--- what a line gives whose operands have the coefficients l and r; of its fields and of a coefficient only the bits that the form below has for them
+-- the coefficient that a line's kind gives
 abbrev pub line-gives : Line → ℕ → ℕ → ℤ
-line-gives line l r = gives (kind-of (line .kind % 2 ^ 2)) (l % 2 ^ 20) (line .shift % 2 ^ 5) (r % 2 ^ 20)
+line-gives line l r = gives (kind-of (line .kind)) l (line .shift) r
+
+-- the same of any line and any coefficients: of a field and of a coefficient only the bits that the form below has for it
+abbrev pub gives-within : Line → ℕ → ℕ → ℤ
+gives-within line l r = gives (kind-of (line .kind % 2 ^ 2)) (l % 2 ^ 20) (line .shift % 2 ^ 5) (r % 2 ^ 20)
 
 -- ---- forty bits, most significant first: top bit, kind (2 bits), left operand (6), s (5), right operand (6), claimed coefficient (20)
 

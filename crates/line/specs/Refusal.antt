@@ -1,5 +1,5 @@
--- What a refusal tells: the documents' number, the line that is bad, counted from 1, and the value that this line really gives (document 02 c). A refusal
--- that speaks of no line tells line 0, and one that speaks of no value tells 0.
+-- What a refusal tells: the documents' number, the line that is bad, counted from 1, and the value that this line really gives (document
+-- 02 c). A refusal that speaks of no line tells line 0, and one that speaks of no value tells 0.
 use Prim.Native.Nat.{ℕ}
 use lib.IntN.{ℤ, pos}
 use Rattle.line.specs.declared.Told.{Told}

@@ -5,7 +5,7 @@ ghost use Prim.Native.Nat.{_+_, _*_, _%_, _<_, _≤_, _^_};
 ghost use lib.IntN.{pos, _-ℤ_, natAbs};
 ghost use lib.ListN.{getD};
 ghost use Rattle.line.specs.Number.{bit-length, twos, odd-part};
-ghost use Rattle.line.specs.Line.{line-gives, number, line-of, forty-bits, bytes-of};
+ghost use Rattle.line.specs.Line.{gives-within, number, line-of, forty-bits, bytes-of};
 ghost use Rattle.line.specs.Refusal.{about, told, refusal-number};
 
 // The fields of a line in the order of its forty bits.
@@ -52,7 +52,7 @@ impl Line {
     // What the kind makes of operands with the coefficients l and r, which may be below 0. Of a field and of a coefficient only the bits
     // that the form gives it, so that every line has an answer.
     pub fn gives(self, l: u64, r: u64) -> i64
-        ensures { λ z. ⌜ z ≡ line-gives self l r ⌝ }
+        ensures { λ z. ⌜ z ≡ gives-within self l r ⌝ }
     {
         let kind = self.kind % 4;
         let s = self.shift % 32;

@@ -1,6 +1,6 @@
--- Which line a refusal of writing tells: that of the check. Where writing refuses by 4 to 7, what it tells is of the recipe's first bad line
--- (`writing-spoken`); and where the tests before the recipe's are passed, a refusal of the check is writing's own, with all its fields (`refused-alike`).
--- Assumes nothing.
+-- Which line a refusal of writing tells: that of the check. Where writing refuses by 4 to 7, what it tells is of the recipe's first bad
+-- line (`writing-spoken`); and where the tests before the recipe's are passed, a refusal of the check is writing's own, with all its
+-- fields (`refused-alike`). Assumes nothing.
 use Prim.Native.Nat.{ℕ, _≤_}
 use mathlib.Core.Path.{_≡_, ap, _∙_, sym}
 use mathlib.Core.Bool.{Bool, false, cond}
@@ -18,7 +18,8 @@ use Rattle.recipe.specs.declared.Checked.the-variants as check
 use Rattle.recipe.proofs.Judged.{by-test}
 use Rattle.recipe.proofs.Refused.{Spoken, recipe-spoken}
 use Rattle.product.specs.Product.{product-of, clause-words}
-use Rattle.product.specs.Write.{not-a-width, not-literals, if-accepted, product-answer, most-next, y-length, write-answer, written-told}
+use Rattle.product.specs.Write.{not-a-width, not-literals, if-accepted, product-answer}
+use Rattle.product.specs.Write.{most-next, y-length, write-answer, written-told}
 use Rattle.product.specs.declared.Written.{Written}
 use Rattle.product.specs.declared.Written.the-variants.{Refused}
 
@@ -35,7 +36,8 @@ module _ (c w : ℕ) (x : List ℤ) (first : ℕ) (recipe : List ℕ) (bits clau
       let p = product-of c x first recipe in
       by-test Spoken-write (ltb most-next (p .next)) _ _ (λ e k. absurd (omega (arith, k .1))) (λ e.
       by-test Spoken-write (ltb bits (y-length c w)) _ _ (λ e k. absurd (omega (arith, k .1))) (λ e.
-      by-test Spoken-write (ltb clauses (length (clause-words p))) _ _ (λ e k. absurd (omega (arith, k .1))) (λ e k. absurd (omega (arith, k .0)))))
+      by-test Spoken-write (ltb clauses (length (clause-words p))) _ _ (λ e k. absurd (omega (arith, k .1)))
+      (λ e k. absurd (omega (arith, k .0)))))
 
   check-spoken : (k : Checked) (later : Written) → Spoken recipe (checked-told k) → Spoken-write later → Spoken-write (if-accepted k later)
   check-spoken check.Accepted later s t = t
@@ -49,8 +51,8 @@ module _ (c w : ℕ) (x : List ℤ) (first : ℕ) (recipe : List ℕ) (bits clau
       by-test Spoken-write (not-literals w x first) _ _ (λ e k. absurd (omega (arith, k .1))) (λ e.
       check-spoken (recipe-checked (odd-part c) recipe) _ (recipe-spoken recipe (odd-part c)) later-spoken)))
 
-  pub refused-alike : 1 ≤ c → c ≤ 65535 → not-a-width w ≡ false → not-literals w x first ≡ false → (r : Refusal) → checked c recipe ≡ check.Refused r
-      → write-answer c w x first recipe bits clauses ≡ Refused r
+  pub refused-alike : 1 ≤ c → c ≤ 65535 → not-a-width w ≡ false → not-literals w x first ≡ false
+      → (r : Refusal) → checked c recipe ≡ check.Refused r → write-answer c w x first recipe bits clauses ≡ Refused r
   unfolding write-answer checked
   refused-alike least most width literals r e =
       let range : out-of-range c ≡ false = simp (ne-eqb c 0 (omega arith), le-ltb 65535 c most) in

@@ -24,7 +24,7 @@ use lib.Dec.{eqb, ltb}
 use lib.ListN.{length}
 use borrow.Author.Tests.{eqb-true, eqb-false, eq-eqb, ne-eqb, ltb-false, le-ltb}
 use Rattle.line.specs.Number.{odd-part}
-use Rattle.line.specs.Line.{Kind, splus, sminus, minuss, kind-of, gives}
+use Rattle.line.specs.Line.{Kind, splus, sminus, minuss, kind-of, line-gives}
 use Rattle.line.specs.declared.Line.{Line}
 use Rattle.line.specs.declared.Refusal.{Refusal}
 use Rattle.line.specs.declared.Refusal.the-variants.{Constant, Length, Value, Product}
@@ -61,7 +61,7 @@ module _ (line : Line) (i l r : ℕ) where
 
   right-kept : Line-right line i l r → judged line i l r ≡ Kept
   right-kept g =
-      let z = gives (kind-of (line .kind)) l (line .shift) r in
+      let z = line-gives line l r in
       judged-value line i l r (omega arith) (omega arith) (g .left) (g .right) (omega arith)
       ∙ ap (λ (b : Bool). cond b Kept (Broken (Value (i + 1) z))) (true-claims (line .coefficient) z (g .value))
 

@@ -1,4 +1,5 @@
--- A claimed coefficient is right exactly where it is what the kind gives; and the machine's test of that, which compares bits. Assumes nothing.
+-- A claimed coefficient is right exactly where it is what the kind gives; and the machine's test of that, which compares bits. Assumes
+-- nothing.
 use mathlib.Core.Path.{_≡_, refl, ap}
 use mathlib.Core.Bool.{true}
 use Prim.Native.Nat.{ℕ, _<_, _^_}

@@ -1,6 +1,6 @@
--- What the verdict on a line says: a line that is kept is right, and of one that breaks a rule the refusal tells the first rule that it breaks, its
--- number in the recipe, and where the rule is 7 what it gives (`judged-says`). The verdict is a chain of tests; the test that broke names the rule, and those
--- before it were passed. A line breaks no two rules first (`breaks-once`). Assumes nothing.
+-- What the verdict on a line says: a line that is kept is right, and of one that breaks a rule the refusal tells the first rule that it
+-- breaks, its number in the recipe, and where the rule is 7 what it gives (`judged-says`). The verdict is a chain of tests; the test that
+-- broke names the rule, and those before it were passed. A line breaks no two rules first (`breaks-once`). Assumes nothing.
 use mathlib.Core.Path.{_≡_, refl, ap, ap₂, _∙_, sym}
 use mathlib.Core.Bool.{Bool, true, false, cond, true≢false}
 use Prim.Native.Nat.{ℕ, _+_, _%_, _≤_, _<_}
@@ -9,7 +9,7 @@ use native.Mathlib.Omega.{arith}
 use lib.Dec.{eqb, ltb}
 use lib.IntN.{ℤ}
 use borrow.Author.Tests.{eqb-true, eqb-false, ltb-true, ltb-false}
-use Rattle.line.specs.Line.{kind-of, gives}
+use Rattle.line.specs.Line.{line-gives}
 use Rattle.line.specs.Refusal.{told}
 use Rattle.line.specs.declared.Line.{Line}
 use Rattle.line.specs.declared.Told.{Told}
@@ -40,7 +40,7 @@ told-by number line z = record { number = number; line = line; value = z }
 
 module _ (line : Line) (i l r : ℕ) where
   abbrev given : ℤ
-  given = gives (kind-of (line .kind)) l (line .shift) r
+  given = line-gives line l r
 
   -- what a verdict says of line i + 1
   abbrev pub Says : Verdict → Type 0
@@ -59,7 +59,8 @@ module _ (line : Line) (i l r : ℕ) where
   before n m f o p value h = absurd (omega arith)
 
   -- rule e is broken, and the rules before it are kept
-  breaks : (e : Line-rule) → rule-number e ≤ 7 → (4 < rule-number e → Keeps form line i l r) → (5 < rule-number e → Keeps operand line i l r)
+  breaks : (e : Line-rule) → rule-number e ≤ 7
+      → (4 < rule-number e → Keeps form line i l r) → (5 < rule-number e → Keeps operand line i l r)
       → (6 < rule-number e → Keeps odd line i l r) → (Keeps e line i l r → ⊥) → Breaks line i l r (told-of e)
   breaks e m f o p b = record { rule = e; number = refl; line-told = refl; value = refl; kept = before (rule-number e) m f o p; broken = b }
 
@@ -73,7 +74,8 @@ module _ (line : Line) (i l r : ℕ) where
       by-test Says (ltb i (line .right)) _ _ (λ e. late f (λ k. omega (arith, ltb-true i (line .right) e, k .1))) (λ e₄.
       let o : Keeps operand line i l r = (ltb-false i (line .left) e₃, ltb-false i (line .right) e₄) in
       by-test Says (eqb (line .coefficient % 2) 0) _ _
-      (λ e. breaks odd (omega arith) (λ h. f) (λ h. o) (λ h. absurd (omega arith)) (λ k. omega (arith, eqb-true (line .coefficient % 2) 0 e, k))) (λ e₅.
+      (λ e. breaks odd (omega arith) (λ h. f) (λ h. o) (λ h. absurd (omega arith)) (λ k. omega (arith, eqb-true (line .coefficient % 2) 0 e, k)))
+      (λ e₅.
       let p : Keeps odd line i l r = omega (arith, eqb-false (line .coefficient % 2) 0 e₅) in
       by-test Says (claims (line .coefficient) given) _ _
       (λ e.
@@ -87,7 +89,8 @@ module _ (line : Line) (i l r : ℕ) where
         most = most;
         value = claims-true (line .coefficient) given e;
       })
-      (λ e. breaks value (omega arith) (λ h. f) (λ h. o) (λ h. p) (λ k. true≢false (sym (true-claims (line .coefficient) given k) ∙ e))))))))
+      (λ e.
+      breaks value (omega arith) (λ h. f) (λ h. o) (λ h. p) (λ k. true≢false (sym (true-claims (line .coefficient) given k) ∙ e))))))))
     where
       unformed : (Keeps form line i l r → ⊥) → Breaks line i l r (told-of form)
       unformed = breaks form (omega arith) (λ h. absurd (omega arith)) (λ h. absurd (omega arith)) (λ h. absurd (omega arith))

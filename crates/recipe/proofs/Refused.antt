@@ -1,13 +1,13 @@
 -- Which line a refusal tells.
 --
--- Statement. Where checking refuses by 4 to 7, what it tells is of the recipe's first bad line (`refused-first-bad`): every line before it is right, it breaks
--- the rule that the number names and keeps each rule before that one, and the value is what its kind gives from the operands' claimed coefficients where the
--- rule is 7, so that it differs from the claim, and else 0. And conversely (`first-bad-told`): for a constant in range and a recipe of at most 32 whole
--- lines, whatever fits the first bad line is what is told. A value has at most 52 bits with its sign (`value-bits`).
+-- Statement. Where checking refuses by 4 to 7, what it tells is of the recipe's first bad line (`refused-first-bad`): every line before
+-- it is right, it breaks the rule that the number names and keeps each rule before that one, and the value is what its kind gives from
+-- the operands' claimed coefficients where the rule is 7, so that it differs from the claim, and else 0. And conversely
+-- (`first-bad-told`): for a constant in range and a recipe of at most 32 whole lines, whatever fits the first bad line is what is told. A
+-- value has at most 52 bits with its sign (`value-bits`).
 --
--- Why. The walk goes on over lines that are kept, which are right, up to the first that is not, or to the product behind the last (`walked`). One recipe has
--- one first bad line, and of that one thing is told (`first-bad-once`).
--- Assumes nothing.
+-- Why. The walk goes on over lines that are kept, which are right, up to the first that is not, or to the product behind the last
+-- (`walked`). One recipe has one first bad line, and of that one thing is told (`first-bad-once`). Assumes nothing.
 use mathlib.Core.Path.{_≡_, sym, subst}
 use mathlib.Core.Logic.{_⊎_, inl, inr}
 use mathlib.Core.List.{List}
@@ -28,7 +28,8 @@ use Rattle.recipe.specs.declared.Checked.{Checked}
 use Rattle.recipe.specs.declared.Checked.the-variants.{Refused}
 use Rattle.recipe.specs.declared.Verdict.{Verdict}
 use Rattle.recipe.specs.declared.Verdict.the-variants.{Kept, Broken}
-use Rattle.recipe.specs.Check.{judged-at, line-at, coefficient-at, unless-broken, lines-checked, recipe-checked, out-of-range, checked, checked-told}
+use Rattle.recipe.specs.Check.{line-at, coefficient-at, left-coefficient, right-coefficient, judged-at}
+use Rattle.recipe.specs.Check.{unless-broken, lines-checked, recipe-checked, out-of-range, checked, checked-told}
 use Rattle.recipe.specs.Accepted.{Line-right}
 use Rattle.recipe.specs.Refused.{Line-rule, form, operand, odd, value, value-told, Breaks, First-bad}
 use Rattle.recipe.proofs.Judged.{by-test, Says, judged-says, right-unbroken, breaks-once}
@@ -45,14 +46,24 @@ abbrev Of-a-line : Told → Type 0
 Of-a-line t = (4 ≤ t .number) × (t .number ≤ 7)
 
 module _ (s : List ℕ) where
-  abbrev left-at : ℕ → ℕ
-  left-at j = coefficient-at s (line-at s j .left)
+  -- line i + 1 is right, is bad as told, or is what a verdict says
+  abbrev Right-at : ℕ → Type 0
+  Right-at i = Line-right (line-at s i) i (left-coefficient s i) (right-coefficient s i)
 
-  abbrev right-at : ℕ → ℕ
-  right-at j = coefficient-at s (line-at s j .right)
+  abbrev Bad-at : Told → ℕ → Type 0
+  Bad-at t i = Breaks (line-at s i) i (left-coefficient s i) (right-coefficient s i) t
+
+  abbrev Says-at : ℕ → Verdict → Type 0
+  Says-at i = Says (line-at s i) i (left-coefficient s i) (right-coefficient s i)
+
+  says-at : (i : ℕ) → Says-at i (judged-at s i)
+  says-at i = judged-says (line-at s i) i (left-coefficient s i) (right-coefficient s i) (omega arith) (omega arith)
+
+  right-not-bad : (t : Told) (i : ℕ) → Right-at i → Bad-at t i → ⊥
+  right-not-bad t i = right-unbroken (line-at s i) i (left-coefficient s i) (right-coefficient s i) t
 
   abbrev Right-before : ℕ → Type 0
-  Right-before i = (j : ℕ) → j < i → Line-right (line-at s j) j (left-at j) (right-at j)
+  Right-before i = (j : ℕ) → j < i → Right-at j
 
   -- ---- the walk
 
@@ -60,15 +71,15 @@ module _ (s : List ℕ) where
   abbrev Walked : ℕ → Told → Type 0
   Walked n t = (Right-before n × (Of-a-line t → ⊥)) ⊎ First-bad s t
 
-  one-more : (i : ℕ) → Right-before i → Line-right (line-at s i) i (left-at i) (right-at i) → Right-before (suc i)
+  one-more : (i : ℕ) → Right-before i → Right-at i → Right-before (suc i)
   one-more i b g j h =
       elim (ℕ-discrete i j) [
-        | yes p ↦ subst (λ (k : ℕ). Line-right (line-at s k) k (left-at k) (right-at k)) p g
+        | yes p ↦ subst Right-at p g
         | no q ↦ b j (omega arith)
       ]
 
   -- one line of the walk
-  turn : (m i : ℕ) → i < length s / 5 → Right-before i → (v : Verdict) (later : Checked) → Says (line-at s i) i (left-at i) (right-at i) v
+  turn : (m i : ℕ) → i < length s / 5 → Right-before i → (v : Verdict) (later : Checked) → Says-at i v
       → (Right-before (suc i) → Walked m (checked-told later)) → Walked m (checked-told (unless-broken v later))
   turn m i h b Kept later g go = go (one-more i b g)
   turn m i h b (Broken x) later g go = inr (record { place = i; within = h; before = b; bad = g })
@@ -82,22 +93,20 @@ module _ (s : List ℕ) where
       (λ q. inl (subst Right-before z b, λ k. omega (arith, k .1)))
   walked d (suc n) i h b =
       let z : suc i + n ≡ i + suc n = omega arith in
-      turn (i + suc n) i (omega arith) b (judged-at s i) (lines-checked d s n (suc i)) (judged-says (line-at s i) i (left-at i) (right-at i) (omega arith) (omega arith))
+      turn (i + suc n) i (omega arith) b (judged-at s i) (lines-checked d s n (suc i)) (says-at i)
       (λ b′. subst (λ (m : ℕ). Walked m (checked-told (lines-checked d s n (suc i)))) z (walked d n (suc i) (omega arith) b′))
 
   all-walked : (d : ℕ) → Walked (length s / 5) (checked-told (lines-checked d s (length s / 5) 0))
   all-walked d =
       let z : 0 + length s / 5 ≡ length s / 5 = omega arith in
-      subst (λ (m : ℕ). Walked m (checked-told (lines-checked d s (length s / 5) 0))) z (walked d (length s / 5) 0 (omega arith) (λ j h. absurd (omega arith)))
+      subst (λ (m : ℕ). Walked m (checked-told (lines-checked d s (length s / 5) 0))) z
+      (walked d (length s / 5) 0 (omega arith) (λ j h. absurd (omega arith)))
 
   -- ---- what is told
 
-  abbrev Bad-at : Told → ℕ → Type 0
-  Bad-at t i = Breaks (line-at s i) i (left-at i) (right-at i) t
-
   -- a line before the first bad one is not bad
   not-before : (t u : Told) (f : First-bad s t) (g : First-bad s u) → f .place < g .place → ⊥
-  not-before t u f g h = right-unbroken (line-at s (f .place)) (f .place) (left-at (f .place)) (right-at (f .place)) t (g .before (f .place) h) (f .bad)
+  not-before t u f g h = right-not-bad t (f .place) (g .before (f .place) h) (f .bad)
 
   pub first-bad-once : (t u : Told) → First-bad s t → First-bad s u → t ≡ u
   first-bad-once t u f g =
@@ -107,7 +116,8 @@ module _ (s : List ℕ) where
         | no h ↦ absurd (not-before u t g f (omega arith))
       ]
       in
-      breaks-once (line-at s (f .place)) (f .place) (left-at (f .place)) (right-at (f .place)) t u (f .bad) (subst (Bad-at u) same (g .bad))
+      let i = f .place in
+      breaks-once (line-at s i) i (left-coefficient s i) (right-coefficient s i) t u (f .bad) (subst (Bad-at u) same (g .bad))
 
   -- what is told of a line's rule is told of the first bad line
   abbrev pub Spoken : Told → Type 0
@@ -137,12 +147,13 @@ module _ (s : List ℕ) where
     first-bad-told least most whole short t f =
         simp (ne-eqb c 0 (omega arith), le-ltb 65535 c most, eq-eqb (length s % 5) 0 whole, le-ltb 160 (length s) short)
         (elim (all-walked (odd-part c)) [
-          | inl w ↦ absurd (right-unbroken (line-at s (f .place)) (f .place) (left-at (f .place)) (right-at (f .place)) t (w .0 (f .place) (f .within)) (f .bad))
+          | inl w ↦ absurd (right-not-bad t (f .place) (w .0 (f .place) (f .within)) (f .bad))
           | inr g ↦ first-bad-once (checked-told (lines-checked (odd-part c) s (length s / 5) 0)) t g f
         ])
 
   pub value-bits : (t : Told) → First-bad s t → natAbs (t .value) < 2 ^ 51
   value-bits t f =
       let line = line-at s (f .place) in
-      let small = gives-small (kind-of (line .kind)) (left-at (f .place)) (line .shift) (right-at (f .place)) (coefficient-lt s (line .left)) (omega arith) (coefficient-lt s (line .right)) in
-      subst (λ (z : ℤ). natAbs z < 2 ^ 51) (sym (f .bad .value)) (told-small (f .bad .rule) _ small)
+      subst (λ (z : ℤ). natAbs z < 2 ^ 51) (sym (f .bad .value))
+      (told-small (f .bad .rule) _
+      (gives-small (kind-of (line .kind)) _ (line .shift) _ (coefficient-lt s (line .left)) (omega arith) (coefficient-lt s (line .right))))

@@ -6,7 +6,7 @@ use lib.Dec.{eqb, ltb}
 use lib.IntN.{ℤ, pos, negsuc}
 use lib.ListN.{length, take, drop}
 use Rattle.line.specs.Number.{odd-part}
-use Rattle.line.specs.Line.{kind-of, gives, number, line-of}
+use Rattle.line.specs.Line.{line-gives, number, line-of}
 use Rattle.line.specs.Refusal.{nothing, told}
 use Rattle.line.specs.declared.Line.{Line}
 use Rattle.line.specs.declared.Told.{Told}
@@ -32,6 +32,13 @@ abbrev pub coefficient-at : List ℕ → ℕ → ℕ
 coefficient-at recipe zero = 1
 coefficient-at recipe (suc i) = line-at recipe i .coefficient
 
+-- the coefficients of the operands of line i + 1
+abbrev pub left-coefficient : List ℕ → ℕ → ℕ
+left-coefficient recipe i = coefficient-at recipe (line-at recipe i .left)
+
+abbrev pub right-coefficient : List ℕ → ℕ → ℕ
+right-coefficient recipe i = coefficient-at recipe (line-at recipe i .right)
+
 -- ---- rules 4 to 7
 
 -- whether the claimed coefficient k is what the kind gives
@@ -43,8 +50,8 @@ claims k (negsuc n) = false
 abbrev pub value-judged : ℕ → ℕ → ℤ → Verdict
 value-judged k number given = cond (claims k given) Kept (Broken (Value number given))
 
--- what the rules say of line i + 1, whose operands have the coefficients l and r: the first rule that it breaks, with the line's number, and where
--- that is rule 7 with what the line gives
+-- what the rules say of line i + 1, whose operands have the coefficients l and r: the first rule that it breaks, with the line's number,
+-- and where that is rule 7 with what the line gives
 unfoldable pub judged : Line → ℕ → ℕ → ℕ → Verdict
 judged line i l r =
     cond (ltb 0 (line .top)) (Broken (Form (i + 1)))
@@ -52,10 +59,10 @@ judged line i l r =
     (cond (ltb i (line .left)) (Broken (Operand (i + 1)))
     (cond (ltb i (line .right)) (Broken (Operand (i + 1)))
     (cond (eqb (line .coefficient % 2) 0) (Broken (Even (i + 1)))
-    (value-judged (line .coefficient) (i + 1) (gives (kind-of (line .kind)) l (line .shift) r))))))
+    (value-judged (line .coefficient) (i + 1) (line-gives line l r))))))
 
 abbrev pub judged-at : List ℕ → ℕ → Verdict
-judged-at recipe i = judged (line-at recipe i) i (coefficient-at recipe (line-at recipe i .left)) (coefficient-at recipe (line-at recipe i .right))
+judged-at recipe i = judged (line-at recipe i) i (left-coefficient recipe i) (right-coefficient recipe i)
 
 -- ---- the first line that breaks a rule, and then rule 8
 

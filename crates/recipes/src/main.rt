@@ -1,5 +1,5 @@
-// Reads records from standard input, each a constant and a recipe, and prints a line for each: the number of the check's refusal, or 0, the bad line
-// and the value that it gives. A record that the input cuts off gets none.
+// Reads records from standard input, each a constant and a recipe, and prints a line for each: the number of the check's refusal, or 0,
+// the bad line and the value that it gives. A record that the input cuts off gets none.
 
 use libc::STDIN_FILENO;
 use libc::STDOUT_FILENO;
@@ -43,7 +43,12 @@ fn print_signed(z: i64) {
     io::print_decimal(STDOUT_FILENO, magnitude(z));
 }
 
+// Success tells three zeros, which go out at once.
 fn print_line(told: Told) {
+    if told.number == 0 {
+        io::write_all(STDOUT_FILENO, b"0 0 0\n");
+        return;
+    }
     io::print_decimal(STDOUT_FILENO, told.number);
     io::write_all(STDOUT_FILENO, b" ");
     io::print_decimal(STDOUT_FILENO, told.line as u64);

@@ -1,12 +1,13 @@
-// Writes recipes: reads records from standard input until it ends, and prints for each what `write::write` or `write::write_plain` answered.
-// A record is the call (1 byte: 0 document 01's, else that over given literals), c (4 bytes, most significant first), w and the number of
-// literals (1 byte each), the first free number (4), the lengths of the recipe and of the bit room (1 each) and of the clause room (2); then the
-// literals (4 bytes each, two's complement) and the recipe. A line is the refusal's number, the bad line and the value that it gives, words,
-// clauses, next free number, bits of y, and a sum over both rooms.
+// Writes recipes: reads records from standard input until it ends, and prints for each what `write::write` or `write::write_plain`
+// answered. A record is the call (1 byte: 0 document 01's, else that over given literals), c (4 bytes, most significant first), w and the
+// number of literals (1 byte each), the first free number (4), the lengths of the recipe and of the bit room (1 each) and of the clause
+// room (2); then the literals (4 bytes each, two's complement) and the recipe. A line is the refusal's number, the bad line and the value
+// that it gives, words, clauses, next free number, bits of y, and a sum over both rooms.
 
 use cnf::named;
 use libc::STDIN_FILENO;
 use libc::STDOUT_FILENO;
+use line::Told;
 use line::magnitude;
 use product::Written;
 ghost use mathlib.Core.Path.{_≡_};
@@ -63,11 +64,19 @@ fn print_signed(z: i64) {
     print_number(magnitude(z));
 }
 
-fn show(done: Written, sum: u64) {
-    let told = done.told();
+// Success tells three zeros, which go out at once: most calls succeed.
+fn print_told(told: Told) {
+    if told.number == 0 {
+        io::write_all(STDOUT_FILENO, b"0 0 0 ");
+        return;
+    }
     print_number(told.number);
     print_number(told.line as u64);
     print_signed(told.value);
+}
+
+fn show(done: Written, sum: u64) {
+    print_told(done.told());
     let n = done.counts();
     print_number(n.words as u64);
     print_number(n.clauses as u64);

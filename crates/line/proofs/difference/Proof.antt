@@ -21,7 +21,9 @@ casts : (a b : ℕ) → a < 2 ^ 52 → b < 2 ^ 52 → toZ w64 a -ℤ toZ w64 b �
 casts a b h h′ = ap₂ (λ (x y : ℤ). x -ℤ y) (toZ-pos w64 a (omega arith)) (toZ-pos w64 b (omega arith))
 
 fits : (a b : ℕ) → a < 2 ^ 52 → b < 2 ^ 52 → SFits w64 (toZ w64 a -ℤ toZ w64 b)
-fits a b h h′ = subst (λ (z : ℤ). SFits w64 z) (sym (casts a b h h′)) (record { sfits = omega (arith, difference-small (2 ^ 52) a b h h′, mag-le (pos a -ℤ pos b)) })
+fits a b h h′ =
+    subst (λ (z : ℤ). SFits w64 z) (sym (casts a b h h′))
+    (record { sfits = omega (arith, difference-small (2 ^ 52) a b h h′, mag-le (pos a -ℤ pos b)) })
 
 sub-result : tie.Need-sub-result
 sub-result c = fits (c .args .a) (c .args .b) (c .pre .0) (c .pre .1)

@@ -76,7 +76,9 @@ cast-result : tie.Need-cast-result
 cast-result c = let s = c .before in cast _ (mag (s .args .z)) (s .fits .z .sfits) (negated-held (s .args .z) (s .fits .z .sfits) (below c))
 
 add-result : tie.Need-add-result
-add-result c = let s = c .before in record { fits = omega (arith, s .fits .z .sfits, ap natAbs (negated-held (s .args .z) (s .fits .z .sfits) (below c))) }
+add-result c =
+    let s = c .before in
+    record { fits = omega (arith, s .fits .z .sfits, ap natAbs (negated-held (s .args .z) (s .fits .z .sfits) (below c))) }
 
 returns : tie.Need-returns
 returns c =

@@ -66,7 +66,11 @@ judge-requires c κs =
     let s = c .before .before .before .before .before .before .before .before .args .recipe .now in (
       omega arith,
       (
-        (omega (arith, ap (λ (x : Line). x .kind) e), omega (arith, ap (λ (x : Line). x .shift) e), omega (arith, ap (λ (x : Line). x .coefficient) e)),
+        (
+          omega (arith, ap (λ (x : Line). x .kind) e),
+          omega (arith, ap (λ (x : Line). x .shift) e),
+          omega (arith, ap (λ (x : Line). x .coefficient) e),
+        ),
         λ j h. omega (arith, l .inv .operands j h, coefficient-lt s j),
       ),
     )

@@ -11,7 +11,7 @@ use mir.Syntax.{w64}
 use mir.Val.{ofZ}
 use Rattle.line.specs.declared.Refusal.the-variants.{Value}
 use Rattle.line.proofs.Signed.{held}
-use Rattle.line.proofs.Value.{line-gives-whole}
+use Rattle.line.proofs.Value.{gives-whole}
 use Rattle.recipe.specs.declared.Verdict.{Verdict}
 use Rattle.recipe.specs.declared.Verdict.the-variants.{Kept, Broken}
 use Rattle.recipe.specs.Check.{claims, value-judged, judged}
@@ -56,7 +56,7 @@ rest c =
     let a = e2 .before .before .args in
     let p = e2 .before .before .pre in
     let line = a .line in
-    let given = line-gives-whole line _ _ (p .1 .0 .0) (p .1 .0 .1) (p .1 .1 _ (e4 .before .if3 .left)) (p .1 .1 _ (e4 .if4 .left)) in
+    let given = gives-whole line _ _ (p .1 .0 .0) (p .1 .0 .1) (p .1 .1 _ (e4 .before .if3 .left)) (p .1 .1 _ (e4 .if4 .left)) in
     judged-value line (a .i) _ _ (e2 .before .if1 .left) (e2 .if2 .left) (e4 .before .if3 .left) (e4 .if4 .left) (e5 .if5 .left)
     ∙ ap (value-judged (line .coefficient) (a .i + 1)) (sym (c .gives .ensures ∙ given))
 
@@ -81,7 +81,8 @@ returns-7 c =
     let g = c .before in
     let i = g .before .before .before .before .before .before .before .before .args .i in
     let z = g .gives .result in
-    ap (λ (y : ℤ). answer (i + 1) y false) (held z (g .gives .ok)) ∙ sym (rest g ∙ ap (answer (i + 1) z) (sym (tested g) ∙ ne-eqb _ _ (c .if6 .left)))
+    ap (λ (y : ℤ). answer (i + 1) y false) (held z (g .gives .ok))
+    ∙ sym (rest g ∙ ap (answer (i + 1) z) (sym (tested g) ∙ ne-eqb _ _ (c .if6 .left)))
 
 pub judge-spec : {M : Type 1} → statement M
 judge-spec =

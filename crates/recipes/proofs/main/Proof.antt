@@ -1,4 +1,5 @@
--- `recipes::main` meets its contract, that it ends and does nothing undefined. The loop's invariant: the room holds a record. Assumes nothing.
+-- `recipes::main` meets its contract, that it ends and does nothing undefined. The loop's invariant: the room holds a record. Assumes
+-- nothing.
 use mathlib.Core.Path.{_≡_, refl}
 use Prim.Native.Nat.{_-_}
 use native.Mathlib.Omega.{arith}

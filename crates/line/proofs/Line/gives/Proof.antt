@@ -17,12 +17,14 @@ returns c =
 returns-2 : tie.Need-returns-2
 returns-2 c =
     let k = c .before in
-    held (c .difference .result) (c .difference .ok) ∙ c .difference .ensures ∙ gives-sminus _ _ _ _ (k .shifted2 .result) (k .before .if2 .taken) (k .shifted2 .ensures .0)
+    held (c .difference .result) (c .difference .ok) ∙ c .difference .ensures
+    ∙ gives-sminus _ _ _ _ (k .shifted2 .result) (k .before .if2 .taken) (k .shifted2 .ensures .0)
 
 returns-3 : tie.Need-returns-3
 returns-3 c =
     let k = c .before in
-    held (c .difference2 .result) (c .difference2 .ok) ∙ c .difference2 .ensures ∙ gives-minuss _ _ _ _ (k .shifted3 .result) (k .before .before .if1 .left) (k .before .if2 .left) (k .shifted3 .ensures .0)
+    held (c .difference2 .result) (c .difference2 .ok) ∙ c .difference2 .ensures
+    ∙ gives-minuss _ _ _ _ (k .shifted3 .result) (k .before .before .if1 .left) (k .before .if2 .left) (k .shifted3 .ensures .0)
 
 pub gives-spec : {M : Type 1} → statement M
 gives-spec =

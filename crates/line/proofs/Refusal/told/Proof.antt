@@ -67,7 +67,8 @@ told-spec =
     (λ c. arm (c .about4 .ensures) (c .before .before .self .given .1) (omega arith))
     (λ c. arm (c .about5 .ensures) (c .before .before .self2 .given .1) (omega arith))
     (λ c. arm (c .about6 .ensures) (c .before .before .self3 .given .1) (omega arith))
-    (λ c. arm (ap (told-value (c .before .self4 .given .0 .0)) (held (c .before .self4 .given .0 .1 .0) (c .known-told4 .given .1 .0 .1))) (c .before .self4 .given .1) (omega arith))
+    (λ c. let x = c .before .self4 .given in
+    arm (ap (told-value (x .0 .0)) (held (x .0 .1 .0) (c .known-told4 .given .1 .0 .1))) (x .1) (omega arith))
     (λ c. arm (c .about7 .ensures) (c .before .enum-told4 .given .1) (omega arith))
     (λ c. arm (c .about8 .ensures) (c .before .enum-told5 .given .1) (omega arith))
     (λ c. arm (c .about9 .ensures) (c .before .enum-told6 .given .1) (omega arith))
