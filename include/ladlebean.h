@@ -1,11 +1,12 @@
 /* Constant products as SAT clauses: the archive's entry points (target/staticlib/libladlebean.a, by `rt staticlib ladlebean`; x86-64).
 
    Each call answers 0, or the number of its refusal (docs/REFUSALS.md), and leaves each field of its answer where a pointer says: one
-   number each, written in success and in every refusal, so none may be null. A refusal leaves every room as it came and every count 0.
-   `*line` and `*value` are 0 but in a refusal of a recipe's line, 4 to 7: there `*line` is the first bad line's number, from 1, and in a 7
-   `*value` is what this line really gives, which may be negative. No call has any other condition: every c, w, x, first, recipe, list of
-   words and room is taken. Rooms and fields must not overlap, and each room's pointer must be good for its length; with length 0 it is
-   not read. */
+   number each, written in success and in every refusal. A refusal leaves every room as it came and every count 0. `*line` is 0 but in a
+   refusal of a recipe's line, 4 to 7: there it is the first bad line's number, from 1. `*value` is 0 but in a 7: there it is what this line
+   really gives, which may be negative.
+
+   Every c, w, x, first, recipe, list of words and room is taken. What C has to see to: no pointer to a field is null; a room's or list's
+   pointer is good for its length (with length 0 it is not read); and nothing that a call writes overlaps anything else handed to it. */
 #ifndef LADLEBEAN_H
 #define LADLEBEAN_H
 
@@ -24,6 +25,9 @@ extern "C" {
 /* The bytes of a recipe's line, and the most lines of a recipe. */
 #define LADLEBEAN_LINE_BYTES 5
 #define LADLEBEAN_MOST_LINES 32
+
+/* The largest coefficient that a line can claim. */
+#define LADLEBEAN_MOST_COEFFICIENT 1048575
 
 /* The values of a variable in a value room. */
 #define LADLEBEAN_FALSE 0
@@ -47,7 +51,7 @@ uint64_t ladlebean_check(uint64_t c, const uint8_t *recipe, size_t recipe_length
    lowest bit first; a negated bit is a negative literal. New variables are numbered from `first` on. Refusals 1, 2, 14, 3, 4 to 7, 8, 15,
    9, 10. After success the front of `bits` holds y, lowest bit first, each as its literal or 0 if it is always 0; the front of `clauses`
    holds the clauses, each closed by a 0; and the fields are the words used, the clauses, the next free number and the bits of y. The next
-   product of the same model takes that next free number as its first. */
+   product of the same model takes that next free number as its first; after a refusal keep the one from before, since the field is 0. */
 uint64_t ladlebean_write(uint64_t c, uint32_t w, const int32_t *x, size_t x_length, uint32_t first, const uint8_t *recipe,
                          size_t recipe_length, int32_t *bits, size_t bits_length, int32_t *clauses, size_t clauses_length,
                          uint64_t *words_used, uint64_t *clauses_written, uint64_t *next_free, uint64_t *y_bits, uint64_t *line,

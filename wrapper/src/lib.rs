@@ -28,10 +28,10 @@ mod archive {
             bits_length: usize,
             clauses: *mut i32,
             clauses_length: usize,
-            words: *mut u64,
-            count: *mut u64,
-            next: *mut u64,
-            size: *mut u64,
+            words_used: *mut u64,
+            clauses_written: *mut u64,
+            next_free: *mut u64,
+            y_bits: *mut u64,
             line: *mut u64,
             value: *mut i64,
         ) -> u64;
@@ -44,10 +44,10 @@ mod archive {
             bits_length: usize,
             clauses: *mut i32,
             clauses_length: usize,
-            words: *mut u64,
-            count: *mut u64,
-            next: *mut u64,
-            size: *mut u64,
+            words_used: *mut u64,
+            clauses_written: *mut u64,
+            next_free: *mut u64,
+            y_bits: *mut u64,
             line: *mut u64,
             value: *mut i64,
         ) -> u64;
@@ -59,7 +59,7 @@ mod archive {
             allowance: u64,
             values: *mut u8,
             values_length: usize,
-            clauses: *mut u64,
+            clauses_read: *mut u64,
         ) -> u64;
     }
 }
@@ -123,17 +123,22 @@ pub struct Counts {
 /// The fields of a call of writing, each a number that the archive fills.
 #[derive(Default)]
 struct Fields {
-    words: u64,
-    count: u64,
-    next: u64,
-    size: u64,
+    words_used: u64,
+    clauses_written: u64,
+    next_free: u64,
+    y_bits: u64,
     line: u64,
     value: i64,
 }
 
 impl Fields {
     fn counted(self, number: u64, recipe: &[u8]) -> Result<Counts, Refusal> {
-        let counts = Counts { words: self.words as usize, clauses: self.count as usize, next: self.next as u32, bits: self.size as usize };
+        let counts = Counts {
+            words: self.words_used as usize,
+            clauses: self.clauses_written as usize,
+            next: self.next_free as u32,
+            bits: self.y_bits as usize,
+        };
         unless_refused(number, counts, || Refusal::of_recipe(number, self.line, self.value, recipe))
     }
 }
@@ -181,10 +186,10 @@ pub fn write(c: u64, w: u32, x: &[i32], first: u32, recipe: &[u8], bits: &mut [i
             bits.len(),
             clauses.as_mut_ptr(),
             clauses.len(),
-            &mut fields.words,
-            &mut fields.count,
-            &mut fields.next,
-            &mut fields.size,
+            &mut fields.words_used,
+            &mut fields.clauses_written,
+            &mut fields.next_free,
+            &mut fields.y_bits,
             &mut fields.line,
             &mut fields.value,
         )
@@ -206,10 +211,10 @@ pub fn write_plain(c: u64, w: u32, recipe: &[u8], bits: &mut [i32], clauses: &mu
             bits.len(),
             clauses.as_mut_ptr(),
             clauses.len(),
-            &mut fields.words,
-            &mut fields.count,
-            &mut fields.next,
-            &mut fields.size,
+            &mut fields.words_used,
+            &mut fields.clauses_written,
+            &mut fields.next_free,
+            &mut fields.y_bits,
             &mut fields.line,
             &mut fields.value,
         )

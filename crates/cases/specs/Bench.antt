@@ -1,7 +1,7 @@
 -- Document 01's "Sums done on the bench": those marked P, row by row; the last of writing as request b has it, lines and values as
 -- request c has them. Where it tells the highest variable, the next free number is one more.
-use mathlib.Core.List.{List, [], _∷_}
-use lib.IntN.{ℤ, pos}
+use mathlib.Core.List.{[], _∷_}
+use lib.IntN.{pos}
 use Rattle.cases.specs.Table.{Table}
 
 unfoldable pub bench : Table

@@ -1,4 +1,4 @@
--- The three demands, of the calls `plan`, `check` and `write`, and what is asked of one pass over words.
+-- The three demands, of the calls `plan`, `check` and `write`; which line is bad; and what is asked of one pass over words.
 --
 -- A call's contract fixes its answer and every room at exit as functions of what came in: `planned c work recipe`, `checked c recipe` and
 -- `written c w x first recipe bits clauses`, document 01 as definitions. So what is said here of these functions is said of the calls, and two results that
@@ -8,12 +8,14 @@
 -- exactly where they say: that is the text of the three functions. A refusal writes nothing (`planning-refused`, `writing-refused`): where the
 -- answer is a refusal, whichever it is, each room at exit is what it was.
 --
--- A refusal by a rule of a line, 4 to 7, tells which line and what it gives (document 02 c): every line before it is right, it breaks the
--- rule that the number names and none before that one, and the value of a 7 is what its kind gives from the operands' claimed
--- coefficients, so that it differs from the claim; in checking (`bad-line-told`) and in writing (`bad-line-told-writing`). Of a recipe
--- that has a bad line nothing else can be told (`told-of-bad-line`), and writing tells what checking tells (`refusals-coincide`). The
--- value has at most 52 bits with its sign (`value-fits`). Every other refusal tells a number alone, with line and value zero
--- (`number-alone`), as planning's do (`planning-number-alone`); and success tells three zeros by definition (`nothing`).
+-- A refusal by a rule of a line, 4 to 7, tells which line is bad (document 02 c): every line before it is right, it breaks the rule that
+-- the number names and keeps each before that one. A 7 also tells what the line's kind gives from the operands' claimed coefficients, which
+-- differs from its claim and has at most 52 bits with its sign (`value-fits`); 4, 5 and 6 tell the value 0. So in checking
+-- (`bad-line-told`) and in writing (`bad-line-told-writing`). For a constant in range and a recipe of at most 32 whole lines, of which one
+-- is bad, nothing else is told (`told-of-bad-line`). Writing refuses a recipe as checking does, in all fields: a refusal of checking is
+-- writing's where width and literals are right (`writing-as-checking`, `plain-as-checking`), and a refusal of writing by 4 to 7 is
+-- checking's (`checking-as-writing`). Every refusal other than 4 to 7 tells line 0 and value 0 (`number-alone`), so planning's do
+-- (`planning-number-alone`); success tells three zeros by definition (`nothing`).
 --
 -- Demand 2. A recipe is accepted exactly when it is right (`accepted-exactly`): c is in range, there are at most 32 lines of five bytes,
 -- each line has the form, names earlier operands, claims an odd coefficient and exactly the one that its kind gives, and the product is c's
@@ -66,7 +68,7 @@ use Rattle.recipe.specs.declared.Checked.the-variants.{Accepted, Refused}
 use Rattle.recipe.specs.Refused.{First-bad}
 use Rattle.recipe.proofs.Accepted.{accepted-right, right-accepted}
 use Rattle.recipe.proofs.Judged.{by-test}
-use Rattle.recipe.proofs.Refused.{Spoken, refused-first-bad, first-bad-told, value-bits}
+use Rattle.recipe.proofs.Refused.{refused-first-bad, first-bad-told, value-bits}
 use Rattle.split.specs.Reach.{member, set-of}
 use Rattle.split.specs.Choose.{lines, Rule, split-of}
 use Rattle.split.specs.Order.{Earlier, coefficients, recipe-for, lines-bytes}
@@ -85,15 +87,15 @@ use Rattle.plan.proofs.Accepts.{planned-accepted, planned-claims, planned-lines
 use Rattle.product.specs.Product.{Product, product-of, clause-words}
 use Rattle.product.specs.Bit.{numbered}
 use Rattle.product.specs.Write.{not-a-width, not-literals, most-next, written, write-by, write-answer, plain-answer, y-length}
-use Rattle.product.specs.Write.{written-told, written-number, clauses-written, next-free}
+use Rattle.product.specs.Write.{written-number, clauses-written, next-free, plain-written}
 use Rattle.product.specs.Demand.{Demand-2, Plain-demand-2, Result, words-at-exit, entries-at-exit, Opened, Renamed}
 use Rattle.product.specs.declared.Written.{Written}
 use Rattle.product.specs.declared.Written.the-variants as write-answers
 use Rattle.product.proofs.Given.{literals-of}
 use Rattle.product.proofs.Demands as product-demands
 use Rattle.product.proofs.Demands.{demand-2, not-refused, opened, plain-demand-2, renamed, demand-3-clauses}
-use Rattle.product.proofs.Plain.{plain-order}
-use Rattle.product.proofs.Refused.{writing-spoken, refused-alike}
+use Rattle.product.proofs.Plain.{literals-pass, plain-order}
+use Rattle.product.proofs.Refused.{refused-alike, line-refused-alike}
 use Rattle.product.proofs.Success.{answer-of}
 use Rattle.cnf.specs.Clause.{Literal, Clause, Assignment, negation, All-distinct, Stands-in}
 use Rattle.cnf.specs.Words.{clauses-of, satisfies-words, names, Distinct-below}
@@ -147,17 +149,27 @@ pub value-fits : (recipe : List ℕ) (t : Told) → First-bad recipe t → natAb
 value-fits = value-bits
 
 module _ (c w : ℕ) (x : List ℤ) (first : ℕ) (recipe : List ℕ) (bits clauses : List ℤ) (r : Refusal) where
+  -- where width and literals are right, a refusal of checking is writing's own
+  pub writing-as-checking : not-a-width w ≡ false → not-literals w x first ≡ false → checked c recipe ≡ Refused r
+      → written c w x first recipe bits clauses .answer ≡ write-answers.Refused r
+  writing-as-checking width literals e =
+      answer-of c w x first recipe bits clauses ∙ refused-alike c w x first recipe (length bits) (length clauses) width literals r e
+
+  -- and a refusal of writing by a line's rule is checking's own
+  pub checking-as-writing : written c w x first recipe bits clauses .answer ≡ write-answers.Refused r
+      → 4 ≤ refusal-number r → refusal-number r ≤ 7 → checked c recipe ≡ Refused r
+  checking-as-writing e =
+      line-refused-alike c w x first recipe (length bits) (length clauses) r (sym (answer-of c w x first recipe bits clauses) ∙ e)
+
   pub bad-line-told-writing : written c w x first recipe bits clauses .answer ≡ write-answers.Refused r
       → 4 ≤ refusal-number r → refusal-number r ≤ 7 → First-bad recipe (told r)
-  bad-line-told-writing e h h′ =
-      subst (λ (a : Written). Spoken recipe (written-told a)) (sym (answer-of c w x first recipe bits clauses) ∙ e)
-      (writing-spoken c w x first recipe (length bits) (length clauses)) (h, h′)
+  bad-line-told-writing e h h′ = bad-line-told c recipe r (checking-as-writing e h h′) h h′
 
-  pub refusals-coincide : 1 ≤ c → c ≤ 65535 → not-a-width w ≡ false → not-literals w x first ≡ false → checked c recipe ≡ Refused r
-      → written c w x first recipe bits clauses .answer ≡ write-answers.Refused r
-  refusals-coincide least most width literals e =
-      answer-of c w x first recipe bits clauses
-      ∙ refused-alike c w x first recipe (length bits) (length clauses) least most width literals r e
+-- document 01's call has right literals at every width from 1 to 16
+pub plain-as-checking : (c w : ℕ) (recipe : List ℕ) (bits clauses : List ℤ) (r : Refusal)
+    → not-a-width w ≡ false → checked c recipe ≡ Refused r → plain-written c w recipe bits clauses .answer ≡ write-answers.Refused r
+plain-as-checking c w recipe bits clauses r width =
+    writing-as-checking c w (numbered 1 w) (suc w) recipe bits clauses r width (literals-pass c w recipe)
 
 -- no line and no value is told
 abbrev Number-alone : Refusal → Type 0

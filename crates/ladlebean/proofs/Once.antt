@@ -1,6 +1,6 @@
--- What each public call leaves is fixed by its contract alone: two outcomes of one call that satisfy it have the same answer and leave the same in
--- each room. `Learnt` is what a caller learns of an outcome, the contract's `ensures` as it stands in the code; nothing else is taken for granted,
--- so a contract that left something open would be refused here.
+-- What each public call leaves is fixed by its contract alone: two outcomes of one call that satisfy it have the same answer and leave
+-- the same in each room and field. `Learnt` is what a caller learns of an outcome, the contract's `ensures` as it stands in the code;
+-- nothing else is taken for granted, so a contract that left something open would be refused here.
 use Prim.Native.Nat.{ℕ}
 use mathlib.Core.Path.{_≡_, sym, _∙_}
 use mathlib.Core.List.{List}

@@ -92,8 +92,8 @@ pub extern "C" fn ladlebean_propagate(
     clauses: &mut u64,
 ) -> u64
     ensures { λ r. ⌜ r ≡ propagated-number (propagated (now (words .entry)) (now (given .entry)) allowance (now (values .entry)) .answer) ⌝ }
-    ensures { λ r. ⌜ now (values .exit) ≡ propagated (now (words .entry)) (now (given .entry)) allowance (now (values .entry)) .room ⌝ }
-    ensures { λ r. ⌜ now (clauses .exit) ≡ clauses-read (propagated (now (words .entry)) (now (given .entry)) allowance (now (values .entry)) .answer) ⌝ }
+    ensures { λ _. ⌜ now (values .exit) ≡ propagated (now (words .entry)) (now (given .entry)) allowance (now (values .entry)) .room ⌝ }
+    ensures { λ _. ⌜ now (clauses .exit) ≡ clauses-read (propagated (now (words .entry)) (now (given .entry)) allowance (now (values .entry)) .answer) ⌝ }
 {
     let propagated = propagate::propagate(words, given, allowance, values);
     *clauses = propagated.clauses();
@@ -107,7 +107,7 @@ fn tell(told: Told, line: &mut u64, value: &mut i64) -> u64
     ensures { λ _. ⌜ now (value .exit) ≡ told .value ⌝ }
 {
     *line = told.line as u64;
-    let z = told.value;
+    let z = told.value; // a field with a sign goes through a local
     *value = z;
     told.number
 }

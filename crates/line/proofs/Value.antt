@@ -9,13 +9,13 @@ use lib.Dec.{ltb}
 use lib.IntN.{ℤ, pos, negsuc, _+ℤ_, _-ℤ_, natAbs, +ℤ-negℤ-cancel, -ℤ-+ℤ-cancel}
 use lib.Pow.{pow-mono}
 use borrow.Author.Tests.{ltb-true, ltb-false, ne-eqb}
-use Rattle.line.specs.Line.{Kind, splus, sminus, minuss, kind-of, gives, line-gives, gives-within}
+use Rattle.line.specs.Line.{Kind, splus, sminus, minuss, kind-of, gives, kind-gives, gives-within}
 use Rattle.line.specs.declared.Line.{Line}
 
-pub sum-of-difference : (k a b : ℕ) → pos k ≡ pos a -ℤ pos b → k + b ≡ a
+sum-of-difference : (k a b : ℕ) → pos k ≡ pos a -ℤ pos b → k + b ≡ a
 sum-of-difference k a b e = ap natAbs (ap (λ (z : ℤ). z +ℤ pos b) e ∙ -ℤ-+ℤ-cancel (pos a) (pos b))
 
-pub difference-of-sum : (k a b : ℕ) → k + b ≡ a → pos k ≡ pos a -ℤ pos b
+difference-of-sum : (k a b : ℕ) → k + b ≡ a → pos k ≡ pos a -ℤ pos b
 difference-of-sum k a b e = sym (ap (λ (x : ℕ). pos x -ℤ pos b) (sym e) ∙ +ℤ-negℤ-cancel (pos k) (pos b))
 
 -- k is what the kind gives, without a difference
@@ -53,7 +53,7 @@ module _ (kind l s r x : ℕ) where
 
 -- fields and coefficients that have no more bits than the form gives them
 pub gives-whole : (line : Line) (l r : ℕ) → line .kind < 2 ^ 2 → line .shift < 2 ^ 5 → l < 2 ^ 20 → r < 2 ^ 20
-    → gives-within line l r ≡ line-gives line l r
+    → gives-within line l r ≡ kind-gives line l r
 gives-whole line l r hk hs hl hr =
     let k : line .kind % 2 ^ 2 ≡ line .kind = omega arith in
     let s : line .shift % 2 ^ 5 ≡ line .shift = omega arith in

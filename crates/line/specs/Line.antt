@@ -23,8 +23,8 @@ gives sminus l s r = pos (l * 2 ^ s) -ℤ pos r
 gives minuss l s r = pos l -ℤ pos (r * 2 ^ s)
 
 -- the coefficient that a line's kind gives
-abbrev pub line-gives : Line → ℕ → ℕ → ℤ
-line-gives line l r = gives (kind-of (line .kind)) l (line .shift) r
+abbrev pub kind-gives : Line → ℕ → ℕ → ℤ
+kind-gives line l r = gives (kind-of (line .kind)) l (line .shift) r
 
 -- the same of any line and any coefficients: of a field and of a coefficient only the bits that the form below has for it
 abbrev pub gives-within : Line → ℕ → ℕ → ℤ

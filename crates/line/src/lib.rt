@@ -6,7 +6,7 @@ ghost use lib.IntN.{pos, _-ℤ_, natAbs};
 ghost use lib.ListN.{getD};
 ghost use Rattle.line.specs.Number.{bit-length, twos, odd-part};
 ghost use Rattle.line.specs.Line.{gives-within, number, line-of, forty-bits, bytes-of};
-ghost use Rattle.line.specs.Refusal.{about, told, refusal-number};
+ghost use Rattle.line.specs.Refusal.{told, refusal-number};
 
 // The fields of a line in the order of its forty bits.
 pub struct Line {
@@ -49,8 +49,8 @@ impl Line {
         }
     }
 
-    // What the kind makes of operands with the coefficients l and r, which may be below 0. Of a field and of a coefficient only the bits
-    // that the form gives it, so that every line has an answer.
+    // What the kind makes of operands with the coefficients l and r; it may be below 0. Of a field and of a coefficient only the bits that
+    // the form gives it, and a code that is no kind as the last one's, so that every line has an answer.
     pub fn gives(self, l: u64, r: u64) -> i64
         ensures { λ z. ⌜ z ≡ gives-within self l r ⌝ }
     {
@@ -226,14 +226,13 @@ pub struct Told {
     pub value: i64,
 }
 
-// A number and a line, with no value.
-fn about(number: u64, line: usize) -> Told
-    ensures { λ r. ⌜ r ≡ about number line ⌝ }
+fn tell(number: u64, line: usize, value: i64) -> Told
+    ensures { λ r. ⌜ r ≡ record { number = number; line = line; value = value } ⌝ }
 {
     Told {
         number,
         line,
-        value: 0,
+        value,
     }
 }
 
@@ -242,29 +241,25 @@ impl Refusal {
         ensures { λ r. ⌜ (r ≡ told self) × (r .number < 100) ⌝ }
     {
         match self {
-            Refusal::Constant => about(1, 0),
-            Refusal::Width => about(2, 0),
-            Refusal::Length => about(3, 0),
-            Refusal::Form(line) => about(4, line),
-            Refusal::Operand(line) => about(5, line),
-            Refusal::Even(line) => about(6, line),
-            Refusal::Value(line, value) => Told {
-                number: 7,
-                line,
-                value,
-            },
-            Refusal::Product => about(8, 0),
-            Refusal::BitRoom => about(9, 0),
-            Refusal::ClauseRoom => about(10, 0),
-            Refusal::WorkRoom => about(11, 0),
-            Refusal::RecipeRoom => about(12, 0),
-            Refusal::Input => about(13, 0),
-            Refusal::Literals => about(14, 0),
-            Refusal::Variables => about(15, 0),
-            Refusal::Allowance => about(20, 0),
-            Refusal::Words => about(21, 0),
-            Refusal::Conflict => about(22, 0),
-            Refusal::Given => about(26, 0),
+            Refusal::Constant => tell(1, 0, 0),
+            Refusal::Width => tell(2, 0, 0),
+            Refusal::Length => tell(3, 0, 0),
+            Refusal::Form(line) => tell(4, line, 0),
+            Refusal::Operand(line) => tell(5, line, 0),
+            Refusal::Even(line) => tell(6, line, 0),
+            Refusal::Value(line, value) => tell(7, line, value),
+            Refusal::Product => tell(8, 0, 0),
+            Refusal::BitRoom => tell(9, 0, 0),
+            Refusal::ClauseRoom => tell(10, 0, 0),
+            Refusal::WorkRoom => tell(11, 0, 0),
+            Refusal::RecipeRoom => tell(12, 0, 0),
+            Refusal::Input => tell(13, 0, 0),
+            Refusal::Literals => tell(14, 0, 0),
+            Refusal::Variables => tell(15, 0, 0),
+            Refusal::Allowance => tell(20, 0, 0),
+            Refusal::Words => tell(21, 0, 0),
+            Refusal::Conflict => tell(22, 0, 0),
+            Refusal::Given => tell(26, 0, 0),
         }
     }
 

@@ -41,7 +41,7 @@ without false false l check.Accepted v later f g = rw (f refl refl, g refl refl 
 without false false l (check.Refused x) v later f g = rw (f refl refl)
 
 module _ (c w : ℕ) (recipe : List ℕ) where
-  literals-pass : not-literals w (numbered 1 w) (suc w) ≡ false
+  pub literals-pass : not-literals w (numbered 1 w) (suc w) ≡ false
   literals-pass = rw (eq-eqb (length (numbered 1 w)) w (length-numbered 1 w), unfit-of (suc w) (numbered 1 w) (numbered-fit w))
 
   variables-pass : not-a-width w ≡ false → recipe-checked (odd-part c) recipe ≡ check.Accepted → ltb most-next (plain-product-of c w recipe .next) ≡ false

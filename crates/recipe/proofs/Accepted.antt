@@ -6,11 +6,12 @@
 -- last line's coefficient, or 1 where there is no line, is the odd part of c. This is demand 2's first sentence. `Right` speaks of no test, no order
 -- of tests and no refusal.
 --
--- Why. The check is a chain of tests, each of which refuses or goes on. An answer that is no refusal passed every test (`passed-then`, `passed-else`),
--- so each test's fact holds; and where each fact holds every test is passed, whatever their order. Two parts of `Right` have no test of their own,
--- since five bytes cannot break them: a kind has two bits and a coefficient twenty. For the lines this is one induction over the lines left: the walk
--- from line i + 1 over n lines is accepted exactly when these n lines are kept and the product is d. The claimed coefficient is what the kind gives
--- exactly where `claims` says so (Claims).
+-- Why. A line is kept exactly when it is right (`judged-says` of Judged, and back). Around the lines the check is a chain of tests, each
+-- of which refuses or goes on. An answer that is no refusal passed every test (`passed-then`, `passed-else`), so each test's fact holds;
+-- and where each fact holds every test is passed, whatever their order. Two parts of `Right` have no test of their own, since five bytes
+-- cannot break them: a kind has two bits and a coefficient twenty. For the lines this is one induction over the lines left: the walk from
+-- line i + 1 over n lines is accepted exactly when these n lines are kept and the product is d. The claimed coefficient is what the kind
+-- gives exactly where `claims` says so (Claims).
 --
 -- What follows of an accepted recipe: every operand's coefficient is odd, and below 2^20 (`coefficient-lt` of Walk), so every line has s of at least 1.
 -- Assumes nothing.
@@ -24,7 +25,7 @@ use lib.Dec.{eqb, ltb}
 use lib.ListN.{length}
 use borrow.Author.Tests.{eqb-true, eqb-false, eq-eqb, ne-eqb, ltb-false, le-ltb}
 use Rattle.line.specs.Number.{odd-part}
-use Rattle.line.specs.Line.{Kind, splus, sminus, minuss, kind-of, line-gives}
+use Rattle.line.specs.Line.{Kind, splus, sminus, minuss, kind-of, kind-gives}
 use Rattle.line.specs.declared.Line.{Line}
 use Rattle.line.specs.declared.Refusal.{Refusal}
 use Rattle.line.specs.declared.Refusal.the-variants.{Constant, Length, Value, Product}
@@ -33,7 +34,7 @@ use Rattle.recipe.specs.declared.Checked.{Checked}
 use Rattle.recipe.specs.declared.Checked.the-variants.{Accepted, Refused}
 use Rattle.recipe.specs.declared.Verdict.{Verdict}
 use Rattle.recipe.specs.declared.Verdict.the-variants.{Kept, Broken}
-use Rattle.recipe.specs.Check.{claims, judged, judged-at, line-at, coefficient-at, unless-broken, lines-checked, recipe-checked, out-of-range, checked}
+use Rattle.recipe.specs.Check.{judged, judged-at, line-at, coefficient-at, unless-broken, lines-checked, recipe-checked, out-of-range, checked}
 use Rattle.recipe.specs.Accepted.{Line-right, Makes, Right}
 use Rattle.recipe.proofs.Claims.{true-claims}
 use Rattle.recipe.proofs.Judged.{Says, judged-says}
@@ -61,7 +62,7 @@ module _ (line : Line) (i l r : ℕ) where
 
   right-kept : Line-right line i l r → judged line i l r ≡ Kept
   right-kept g =
-      let z = line-gives line l r in
+      let z = kind-gives line l r in
       judged-value line i l r (omega arith) (omega arith) (g .left) (g .right) (omega arith)
       ∙ ap (λ (b : Bool). cond b Kept (Broken (Value (i + 1) z))) (true-claims (line .coefficient) z (g .value))
 

@@ -9,7 +9,7 @@ use native.Mathlib.Omega.{arith}
 use lib.Dec.{eqb, ltb}
 use lib.IntN.{ℤ}
 use borrow.Author.Tests.{eqb-true, eqb-false, ltb-true, ltb-false}
-use Rattle.line.specs.Line.{line-gives}
+use Rattle.line.specs.Line.{kind-gives}
 use Rattle.line.specs.Refusal.{told}
 use Rattle.line.specs.declared.Line.{Line}
 use Rattle.line.specs.declared.Told.{Told}
@@ -40,7 +40,7 @@ told-by number line z = record { number = number; line = line; value = z }
 
 module _ (line : Line) (i l r : ℕ) where
   abbrev given : ℤ
-  given = line-gives line l r
+  given = kind-gives line l r
 
   -- what a verdict says of line i + 1
   abbrev pub Says : Verdict → Type 0

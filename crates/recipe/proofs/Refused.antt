@@ -30,7 +30,7 @@ use Rattle.recipe.specs.declared.Verdict.{Verdict}
 use Rattle.recipe.specs.declared.Verdict.the-variants.{Kept, Broken}
 use Rattle.recipe.specs.Check.{line-at, coefficient-at, left-coefficient, right-coefficient, judged-at}
 use Rattle.recipe.specs.Check.{unless-broken, lines-checked, recipe-checked, out-of-range, checked, checked-told}
-use Rattle.recipe.specs.Accepted.{Line-right}
+use Rattle.recipe.specs.Accepted.{Right-at}
 use Rattle.recipe.specs.Refused.{Line-rule, form, operand, odd, value, value-told, Breaks, First-bad}
 use Rattle.recipe.proofs.Judged.{by-test, Says, judged-says, right-unbroken, breaks-once}
 use Rattle.recipe.proofs.Walk.{coefficient-lt}
@@ -46,24 +46,22 @@ abbrev Of-a-line : Told → Type 0
 Of-a-line t = (4 ≤ t .number) × (t .number ≤ 7)
 
 module _ (s : List ℕ) where
-  -- line i + 1 is right, is bad as told, or is what a verdict says
-  abbrev Right-at : ℕ → Type 0
-  Right-at i = Line-right (line-at s i) i (left-coefficient s i) (right-coefficient s i)
-
+  -- line i + 1 is bad, and this is told of it
   abbrev Bad-at : Told → ℕ → Type 0
   Bad-at t i = Breaks (line-at s i) i (left-coefficient s i) (right-coefficient s i) t
 
+  -- the verdict says this of line i + 1
   abbrev Says-at : ℕ → Verdict → Type 0
   Says-at i = Says (line-at s i) i (left-coefficient s i) (right-coefficient s i)
 
   says-at : (i : ℕ) → Says-at i (judged-at s i)
   says-at i = judged-says (line-at s i) i (left-coefficient s i) (right-coefficient s i) (omega arith) (omega arith)
 
-  right-not-bad : (t : Told) (i : ℕ) → Right-at i → Bad-at t i → ⊥
+  right-not-bad : (t : Told) (i : ℕ) → Right-at s i → Bad-at t i → ⊥
   right-not-bad t i = right-unbroken (line-at s i) i (left-coefficient s i) (right-coefficient s i) t
 
   abbrev Right-before : ℕ → Type 0
-  Right-before i = (j : ℕ) → j < i → Right-at j
+  Right-before i = (j : ℕ) → j < i → Right-at s j
 
   -- ---- the walk
 
@@ -71,10 +69,10 @@ module _ (s : List ℕ) where
   abbrev Walked : ℕ → Told → Type 0
   Walked n t = (Right-before n × (Of-a-line t → ⊥)) ⊎ First-bad s t
 
-  one-more : (i : ℕ) → Right-before i → Right-at i → Right-before (suc i)
+  one-more : (i : ℕ) → Right-before i → Right-at s i → Right-before (suc i)
   one-more i b g j h =
       elim (ℕ-discrete i j) [
-        | yes p ↦ subst Right-at p g
+        | yes p ↦ subst (Right-at s) p g
         | no q ↦ b j (omega arith)
       ]
 
@@ -108,7 +106,7 @@ module _ (s : List ℕ) where
   not-before : (t u : Told) (f : First-bad s t) (g : First-bad s u) → f .place < g .place → ⊥
   not-before t u f g h = right-not-bad t (f .place) (g .before (f .place) h) (f .bad)
 
-  pub first-bad-once : (t u : Told) → First-bad s t → First-bad s u → t ≡ u
+  first-bad-once : (t u : Told) → First-bad s t → First-bad s u → t ≡ u
   first-bad-once t u f g =
       let same : g .place ≡ f .place =
       elim (decLe (f .place) (g .place)) [
@@ -120,13 +118,13 @@ module _ (s : List ℕ) where
       breaks-once (line-at s i) i (left-coefficient s i) (right-coefficient s i) t u (f .bad) (subst (Bad-at u) same (g .bad))
 
   -- what is told of a line's rule is told of the first bad line
-  abbrev pub Spoken : Told → Type 0
+  abbrev Spoken : Told → Type 0
   Spoken t = Of-a-line t → First-bad s t
 
   abbrev Spoken-check : Checked → Type 0
   Spoken-check a = Spoken (checked-told a)
 
-  pub recipe-spoken : (d : ℕ) → Spoken (checked-told (recipe-checked d s))
+  recipe-spoken : (d : ℕ) → Spoken (checked-told (recipe-checked d s))
   unfolding recipe-checked
   recipe-spoken d =
       by-test Spoken-check (eqb (length s % 5) 0) _ _

@@ -10,7 +10,7 @@ use lib.Dec.{eqb, ltb, lit<}
 use lib.ListN.{length, getD, set, take, drop, length-set}
 use lib.Seq.{getD-set-same, getD-set-other}
 use borrow.Author.Tests.{eq-eqb, ne-eqb, le-ltb, ltb-false}
-use Rattle.line.specs.Line.{line-gives, line-of, number}
+use Rattle.line.specs.Line.{kind-gives, line-of, number}
 use Rattle.line.specs.declared.Line.{Line}
 use Rattle.line.specs.declared.Refusal.{Refusal}
 use Rattle.line.specs.declared.Refusal.the-variants.{Form, Operand, Even, Product}
@@ -74,13 +74,13 @@ judged-same line i l l′ r r′ hl hr =
     ap (λ (v : Verdict). cond (ltb 0 (line .top)) (Broken (Form (i + 1))) (cond (eqb (line .kind) 0) (Broken (Form (i + 1))) v))
     (else-same (ltb i (line .left)) (Broken (Operand (i + 1))) (λ e.
     else-same (ltb i (line .right)) (Broken (Operand (i + 1))) (λ e′.
-    ap₂ (λ (x y : ℕ). cond (eqb (line .coefficient % 2) 0) (Broken (Even (i + 1))) (value-judged (line .coefficient) (i + 1) (line-gives line x y)))
+    ap₂ (λ (x y : ℕ). cond (eqb (line .coefficient % 2) 0) (Broken (Even (i + 1))) (value-judged (line .coefficient) (i + 1) (kind-gives line x y)))
     (hl (ltb-false _ _ e)) (hr (ltb-false _ _ e′)))))
 
 -- rules 4 to 6 kept: only the value is left
 pub judged-value : (line : Line) (i l r : ℕ)
     → line .top ≤ 0 → (line .kind ≡ 0 → ⊥) → line .left ≤ i → line .right ≤ i → (line .coefficient % 2 ≡ 0 → ⊥)
-    → judged line i l r ≡ value-judged (line .coefficient) (i + 1) (line-gives line l r)
+    → judged line i l r ≡ value-judged (line .coefficient) (i + 1) (kind-gives line l r)
 unfolding judged
 judged-value line i l r top kind left right even =
     simp (

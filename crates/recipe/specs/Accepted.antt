@@ -5,7 +5,7 @@ use mathlib.Core.List.{List}
 use lib.IntN.{pos}
 use lib.ListN.{length}
 use Rattle.line.specs.Number.{odd-part}
-use Rattle.line.specs.Line.{line-gives}
+use Rattle.line.specs.Line.{kind-gives}
 use Rattle.line.specs.declared.Line.{Line}
 use Rattle.recipe.specs.Check.{line-at, coefficient-at, left-coefficient, right-coefficient}
 
@@ -18,14 +18,17 @@ pub record Line-right (line : Line) (i l r : ℕ) : Type 0 where
   pub right : line .right ≤ i
   pub odd : line .coefficient % 2 ≡ 1
   pub most : line .coefficient ≤ 1048575
-  pub value : pos (line .coefficient) ≡ line-gives line l r
+  pub value : pos (line .coefficient) ≡ kind-gives line l r
+
+-- line i + 1 of a recipe is right
+abbrev pub Right-at : List ℕ → ℕ → Type 0
+Right-at recipe i = Line-right (line-at recipe i) i (left-coefficient recipe i) (right-coefficient recipe i)
 
 -- at most 32 lines, of five bytes, each of them right, and the product is d
 pub record Makes (d : ℕ) (recipe : List ℕ) : Type 0 where
   pub whole : length recipe % 5 ≡ 0
   pub short : length recipe ≤ 160
-  pub line : (i : ℕ) → i < length recipe / 5
-      → Line-right (line-at recipe i) i (left-coefficient recipe i) (right-coefficient recipe i)
+  pub line : (i : ℕ) → i < length recipe / 5 → Right-at recipe i
   pub product : coefficient-at recipe (length recipe / 5) ≡ d
 
 pub record Right (c : ℕ) (recipe : List ℕ) : Type 0 where

@@ -6,7 +6,7 @@ use lib.Dec.{eqb, ltb}
 use lib.IntN.{ℤ, pos, negsuc}
 use lib.ListN.{length, take, drop}
 use Rattle.line.specs.Number.{odd-part}
-use Rattle.line.specs.Line.{line-gives, number, line-of}
+use Rattle.line.specs.Line.{kind-gives, number, line-of}
 use Rattle.line.specs.Refusal.{nothing, told}
 use Rattle.line.specs.declared.Line.{Line}
 use Rattle.line.specs.declared.Told.{Told}
@@ -46,7 +46,7 @@ unfoldable pub claims : ℕ → ℤ → Bool
 claims k (pos n) = eqb k n
 claims k (negsuc n) = false
 
--- what rule 7 says of a line by its number, the claimed coefficient k and the value that it gives
+-- what rule 7 says of a line that claims the coefficient k, by its number and the value that it gives
 abbrev pub value-judged : ℕ → ℕ → ℤ → Verdict
 value-judged k number given = cond (claims k given) Kept (Broken (Value number given))
 
@@ -59,7 +59,7 @@ judged line i l r =
     (cond (ltb i (line .left)) (Broken (Operand (i + 1)))
     (cond (ltb i (line .right)) (Broken (Operand (i + 1)))
     (cond (eqb (line .coefficient % 2) 0) (Broken (Even (i + 1)))
-    (value-judged (line .coefficient) (i + 1) (line-gives line l r))))))
+    (value-judged (line .coefficient) (i + 1) (kind-gives line l r))))))
 
 abbrev pub judged-at : List ℕ → ℕ → Verdict
 judged-at recipe i = judged (line-at recipe i) i (left-coefficient recipe i) (right-coefficient recipe i)
