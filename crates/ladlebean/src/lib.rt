@@ -93,7 +93,8 @@ pub extern "C" fn ladlebean_propagate(
 ) -> u64
     ensures { λ r. ⌜ r ≡ propagated-number (propagated (now (words .entry)) (now (given .entry)) allowance (now (values .entry)) .answer) ⌝ }
     ensures { λ _. ⌜ now (values .exit) ≡ propagated (now (words .entry)) (now (given .entry)) allowance (now (values .entry)) .room ⌝ }
-    ensures { λ _. ⌜ now (clauses .exit) ≡ clauses-read (propagated (now (words .entry)) (now (given .entry)) allowance (now (values .entry)) .answer) ⌝ }
+    ensures { λ _. ⌜ now (clauses .exit)
+        ≡ clauses-read (propagated (now (words .entry)) (now (given .entry)) allowance (now (values .entry)) .answer) ⌝ }
 {
     let propagated = propagate::propagate(words, given, allowance, values);
     *clauses = propagated.clauses();

@@ -34,7 +34,8 @@ use Rattle.recipe.specs.declared.Checked.{Checked}
 use Rattle.recipe.specs.declared.Checked.the-variants.{Accepted, Refused}
 use Rattle.recipe.specs.declared.Verdict.{Verdict}
 use Rattle.recipe.specs.declared.Verdict.the-variants.{Kept, Broken}
-use Rattle.recipe.specs.Check.{judged, judged-at, line-at, coefficient-at, unless-broken, lines-checked, recipe-checked, out-of-range, checked}
+use Rattle.recipe.specs.Check.{judged, judged-at, line-at, coefficient-at}
+use Rattle.recipe.specs.Check.{unless-broken, lines-checked, recipe-checked, out-of-range, checked}
 use Rattle.recipe.specs.Accepted.{Line-right, Makes, Right}
 use Rattle.recipe.proofs.Claims.{true-claims}
 use Rattle.recipe.proofs.Judged.{Says, judged-says}

@@ -43,7 +43,7 @@ fn print_signed(z: i64) {
     io::print_decimal(STDOUT_FILENO, magnitude(z));
 }
 
-// Success tells three zeros, which go out at once: most calls succeed.
+// Success tells three zeros, which go out by one call of the system in place of six.
 fn print_line(told: Told) {
     if told.number == 0 {
         io::write_all(STDOUT_FILENO, b"0 0 0\n");
