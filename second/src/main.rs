@@ -12,7 +12,7 @@ const USAGE: &str = "usage: second plan C           lines of the planned recipe,
        second cases            worked cases, as the table that the proofs compute
        second calls KIND SEED COUNT   that many calls of a KIND, as a stream of records
        second answers KIND     the answers to such a stream on standard input
-KIND is recipes (checking), plans, writes or propagations (passes over words).
+KIND is checks, plans, writes or passes (over words).
 C and W are decimal numbers; blanks within HEX are ignored.
 ";
 
@@ -100,20 +100,20 @@ fn written(c: u64, w: u64) -> Vec<u8> {
 
 fn calls(kind: &str, seed: u64, count: usize) -> Option<Vec<u8>> {
     match kind {
-        "recipes" => Some(streams::recipes(seed, count)),
+        "checks" => Some(streams::checks(seed, count)),
         "plans" => Some(streams::plans(seed, count)),
         "writes" => Some(streams::writes(seed, count)),
-        "propagations" => Some(streams::propagations(seed, count)),
+        "passes" => Some(streams::passes(seed, count)),
         _ => None,
     }
 }
 
 fn answers(kind: &str) -> Option<Vec<u8>> {
     let answer = match kind {
-        "recipes" => streams::recipe_answers,
+        "checks" => streams::check_answers,
         "plans" => streams::plan_answers,
         "writes" => streams::write_answers,
-        "propagations" => streams::propagation_answers,
+        "passes" => streams::pass_answers,
         _ => return None,
     };
     let mut stream = Vec::new();

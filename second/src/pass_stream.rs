@@ -215,7 +215,7 @@ fn drawn(random: &mut Random) -> Pass {
     }
 }
 
-pub fn propagations(seed: u64, count: usize) -> Vec<u8> {
+pub fn passes(seed: u64, count: usize) -> Vec<u8> {
     let mut random = Random::seeded(seed);
     let drawn = (0..count).map(|_| drawn(&mut random));
     calls().into_iter().chain(drawn).enumerate().flat_map(|(place, call)| record((place % 3) as u8, &call)).collect()
@@ -247,7 +247,7 @@ fn line(reader: &mut Reader) -> Option<String> {
     Some(format!("{} {} {sum}\n", Refusal::of(&answer).number, answer.unwrap_or(0)))
 }
 
-pub fn propagation_answers(stream: &[u8]) -> Vec<u8> {
+pub fn pass_answers(stream: &[u8]) -> Vec<u8> {
     let mut reader = Reader(stream);
     std::iter::from_fn(|| line(&mut reader)).collect::<String>().into_bytes()
 }

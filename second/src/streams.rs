@@ -4,7 +4,7 @@
 use crate::bad_lines;
 use crate::edges::{self, needed, Call, Fields, END};
 use crate::line::{Line, LINE_BYTES, MAX_LINES, MINUSS};
-pub use crate::pass_stream::{propagation_answers, propagations};
+pub use crate::pass_stream::{pass_answers, passes};
 use crate::random::Random;
 use crate::{check, plan, write, write_plain, Refusal};
 
@@ -224,7 +224,7 @@ pub(crate) fn bench_recipes() -> Vec<(u64, Vec<u8>)> {
 // ---- checking: c (4 bytes, most significant first), the recipe's length (1), the recipe. The answer is a line: the
 // refusal's number or 0, the line and the value that it tells.
 
-pub fn recipes(seed: u64, count: usize) -> Vec<u8> {
+pub fn checks(seed: u64, count: usize) -> Vec<u8> {
     let mut random = Random::seeded(seed);
     let mut cases = bench_recipes();
     cases.extend(bad_lines::proposals());
@@ -243,7 +243,7 @@ fn recipe_record<'a>(reader: &mut Reader<'a>) -> Option<(u64, &'a [u8])> {
     Some((c, reader.take(length as usize)?))
 }
 
-pub fn recipe_answers(stream: &[u8]) -> Vec<u8> {
+pub fn check_answers(stream: &[u8]) -> Vec<u8> {
     let mut reader = Reader(stream);
     let records = std::iter::from_fn(|| recipe_record(&mut reader));
     records.map(|(c, recipe)| told(&check(c, recipe)) + "\n").collect::<String>().into_bytes()

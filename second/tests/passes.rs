@@ -64,8 +64,8 @@ fn shown((answer, room): (Result<u64, u8>, Vec<u8>)) -> String {
 
 #[test]
 fn every_record_has_its_line() {
-    let stream = streams::propagations(5, 1_500);
-    let answers = String::from_utf8(streams::propagation_answers(&stream)).unwrap();
+    let stream = streams::passes(5, 1_500);
+    let answers = String::from_utf8(streams::pass_answers(&stream)).unwrap();
     let expected: String = records(&stream).iter().map(|record| shown(answer(record))).collect();
     assert_eq!(answers, expected);
 }
@@ -81,7 +81,7 @@ const BY_HAND: [u8; 14 + 4 * 5 + 4 + 3] = [
 
 #[test]
 fn a_record_in_the_layout_is_read() {
-    let answered = |stream: &[u8]| String::from_utf8(streams::propagation_answers(stream)).unwrap();
+    let answered = |stream: &[u8]| String::from_utf8(streams::pass_answers(stream)).unwrap();
     let left = |a: u32, b: u32, c: u32| (a * 31 + b) * 31 + c;
     assert_eq!(answered(&BY_HAND), format!("0 2 {}\n", left(2, 1, 0)));
     for (place, byte, number, room) in [
@@ -111,16 +111,16 @@ fn a_record_in_the_layout_is_read() {
 fn a_record_that_ends_early_is_not_answered() {
     let two = [BY_HAND, BY_HAND].concat();
     for end in 0..=two.len() {
-        let lines = streams::propagation_answers(&two[..end]).iter().filter(|byte| **byte == b'\n').count();
+        let lines = streams::pass_answers(&two[..end]).iter().filter(|byte| **byte == b'\n').count();
         assert_eq!(lines, end / BY_HAND.len(), "{end}");
     }
 }
 
 #[test]
 fn the_calls_by_hand_come_first_and_meet_the_edges() {
-    let by_hand = streams::propagations(1, 0);
-    assert_eq!(streams::propagations(2, 0), by_hand);
-    assert!(streams::propagations(2, 9).starts_with(&by_hand));
+    let by_hand = streams::passes(1, 0);
+    assert_eq!(streams::passes(2, 0), by_hand);
+    assert!(streams::passes(2, 9).starts_with(&by_hand));
     let records = records(&by_hand);
     for number in [0, 20, 21, 22, 26] {
         assert!(records.iter().filter(|record| refusal(record) == number).count() >= 4, "{number}");
@@ -198,8 +198,8 @@ fn later(number: u8, record: &Record) -> Option<u8> {
 
 #[test]
 fn the_calls_drawn_are_of_every_kind() {
-    let (by_hand, mut met) = (records(&streams::propagations(3, 0)).len(), Met::default());
-    let records = records(&streams::propagations(3, 6_000));
+    let (by_hand, mut met) = (records(&streams::passes(3, 0)).len(), Met::default());
+    let records = records(&streams::passes(3, 6_000));
     assert_eq!(records.len(), by_hand + 6_000);
     records[by_hand..].iter().for_each(|record| met.note(record));
     println!("{met:?}");
@@ -215,5 +215,5 @@ fn the_calls_drawn_are_of_every_kind() {
 /// It is kept as a file elsewhere.
 #[test]
 fn the_stream_is_no_long_one() {
-    assert!(streams::propagations(1, 1_500).len() < 200_000);
+    assert!(streams::passes(1, 1_500).len() < 200_000);
 }

@@ -78,12 +78,12 @@ fn print() {
 
 #[test]
 fn streams_of_passes() {
-    let calls = run(&["calls", "propagations", "7", "40"], b"");
+    let calls = run(&["calls", "passes", "7", "40"], b"");
     assert!(calls.status.success() && calls.stderr.is_empty());
-    assert_eq!(calls.stdout, second::streams::propagations(7, 40));
-    let answers = run(&["answers", "propagations"], &calls.stdout);
+    assert_eq!(calls.stdout, second::streams::passes(7, 40));
+    let answers = run(&["answers", "passes"], &calls.stdout);
     assert!(answers.status.success() && answers.stderr.is_empty());
-    assert_eq!(answers.stdout, second::streams::propagation_answers(&calls.stdout));
+    assert_eq!(answers.stdout, second::streams::pass_answers(&calls.stdout));
 }
 
 #[test]
@@ -100,9 +100,9 @@ fn wrong_usage() {
         &["check", "3", "20040"],
         &["check", "3", "zz"],
         &["solve", "3"],
-        &["calls", "propagations", "7"],
-        &["calls", "passes", "7", "40"],
-        &["answers", "passes"],
+        &["calls", "passes", "7"],
+        &["calls", "propagations", "7", "40"],
+        &["answers", "propagations"],
     ];
     for words in wrong {
         let output = run(words, b"");

@@ -236,9 +236,9 @@ fn a_record_of_checking_in_the_layout_is_read() {
     let itself = [&[0, 0, 0, 6, 10], &three[..], &[0x20, 4, 0x20, 0, 3]].concat();
     let out_of_range = [&[0, 1, 0, 0, 5], &fifteen[..]].concat();
     let stream = [negative, right, itself, out_of_range].concat();
-    assert_eq!(String::from_utf8(streams::recipe_answers(&stream)).unwrap(), "7 3 -12\n0 0 0\n5 2 0\n1 0 0\n");
-    assert_eq!(streams::recipe_answers(&stream[..stream.len() - 1]), b"7 3 -12\n0 0 0\n5 2 0\n");
-    assert_eq!(streams::recipe_answers(&[]), b"");
+    assert_eq!(String::from_utf8(streams::check_answers(&stream)).unwrap(), "7 3 -12\n0 0 0\n5 2 0\n1 0 0\n");
+    assert_eq!(streams::check_answers(&stream[..stream.len() - 1]), b"7 3 -12\n0 0 0\n5 2 0\n");
+    assert_eq!(streams::check_answers(&[]), b"");
 }
 
 /// What a line of answers begins with.
@@ -266,8 +266,8 @@ fn assert_bad_lines_of_every_kind(told: &[Refusal]) {
 
 #[test]
 fn the_recipes_have_bad_lines_and_every_record_has_its_line() {
-    let stream = streams::recipes(6, 20_000);
-    let answers = String::from_utf8(streams::recipe_answers(&stream)).unwrap();
+    let stream = streams::checks(6, 20_000);
+    let answers = String::from_utf8(streams::check_answers(&stream)).unwrap();
     let expected: String = proposals(&stream).iter().map(|(c, recipe)| refusal_shown(judged(*c, recipe))).collect();
     assert!(answers == expected, "a record has another line");
     let told: Vec<Refusal> = answers.lines().map(told).collect();
@@ -298,7 +298,7 @@ fn the_writes_have_bad_lines() {
 
 #[test]
 fn a_seed_gives_one_stream() {
-    for stream in [streams::recipes, streams::writes] {
+    for stream in [streams::checks, streams::writes] {
         assert_eq!(stream(7, 500), stream(7, 500));
         assert_ne!(stream(7, 500), stream(8, 500));
     }
@@ -311,7 +311,7 @@ fn hash(bytes: &[u8]) -> u64 {
 
 /// Answers to these streams are kept elsewhere, so not a byte of them may change.
 #[test]
-fn recipes_and_plans_stay() {
-    assert_eq!(hash(&streams::recipes(1, 3_000)), 0x6BEF_0438_56D7_B64C);
+fn checks_and_plans_stay() {
+    assert_eq!(hash(&streams::checks(1, 3_000)), 0x6BEF_0438_56D7_B64C);
     assert_eq!(hash(&streams::plans(1, 3_000)), 0x8642_AA9B_401F_1B7A);
 }

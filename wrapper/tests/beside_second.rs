@@ -29,7 +29,7 @@ fn fields(refusal: ladlebean::Refusal) -> second::Refusal {
 
 #[test]
 fn checks_agree() {
-    let mut reader = Reader(streams::recipes(SEED, 20_000), 0);
+    let mut reader = Reader(streams::checks(SEED, 20_000), 0);
     while !reader.ended() {
         let (c, length) = (reader.number(4), reader.number(1));
         let recipe = reader.take(length as usize);
@@ -130,7 +130,7 @@ fn the_panels_variables_or_the_first_ones() {
 
 #[test]
 fn passes_agree() {
-    let mut reader = Reader(streams::propagations(SEED, 20_000), 0);
+    let mut reader = Reader(streams::passes(SEED, 20_000), 0);
     while !reader.ended() {
         let (_, words, given, room) = (reader.number(1), reader.number(2), reader.number(1), reader.number(2));
         let allowance = reader.number(8);

@@ -15,7 +15,8 @@ use native.Mathlib.Nat.{le-refl, le-suc, eq-or-lt-of-le, le-of-suc-le-suc, max-e
 use native.Mathlib.Omega.{arith}
 use borrow.Author.Tests.{eq-eqb, eqb-true, eqb-false}
 use lib.Dec.{eqb}
-use Rattle.cnf.specs.Clause.{Literal, Clause, Assignment, flips, negation, value, holds, satisfies, clause-names, clauses-name, Distinct, All-distinct, Stands-in}
+use Rattle.cnf.specs.Clause.{Literal, Clause, Assignment, flips, negation, value, holds, satisfies, clause-names, clauses-name}
+use Rattle.cnf.specs.Clause.{Distinct, All-distinct, Stands-in}
 
 -- ---- clauses in a row
 
@@ -33,7 +34,8 @@ and-both false b e f = e
 
 pub satisfies-append : (α : Assignment) (cs ds : List Clause) → satisfies α (cs ++ ds) ≡ satisfies α cs && satisfies α ds
 satisfies-append α [] ds = refl
-satisfies-append α (c ∷ cs) ds = ap (λ (b : Bool). holds α c && b) (satisfies-append α cs ds) ∙ sym (and-assoc (holds α c) (satisfies α cs) (satisfies α ds))
+satisfies-append α (c ∷ cs) ds =
+    ap (λ (b : Bool). holds α c && b) (satisfies-append α cs ds) ∙ sym (and-assoc (holds α c) (satisfies α cs) (satisfies α ds))
 
 pub satisfies-left : (α : Assignment) (cs ds : List Clause) → satisfies α (cs ++ ds) ≡ true → satisfies α cs ≡ true
 satisfies-left α cs ds e = and-left (satisfies α cs) (satisfies α ds) (sym (satisfies-append α cs ds) ∙ e)
@@ -231,10 +233,14 @@ module _ (Used : ℕ → Type 0) where
     grows = omega (arith, p .grows, q .grows);
     exists = λ α.
         let r = p .exists α in
-        let s = q .exists (r .0) in
-        (s .0, agree-trans (r .1) (agree-less (p .grows) (s .1)), satisfies-both (s .0) cs ds (sym (satisfies-local cs (p .names) (s .1)) ∙ r .2) (s .2));
+        let s = q .exists (r .0) in (
+          s .0,
+          agree-trans (r .1) (agree-less (p .grows) (s .1)),
+          satisfies-both (s .0) cs ds (sym (satisfies-local cs (p .names) (s .1)) ∙ r .2) (s .2),
+        );
     unique = λ α β h s t.
-        q .unique α β (p .unique α β h (satisfies-left α cs ds s) (satisfies-left β cs ds t)) (satisfies-right α cs ds s) (satisfies-right β cs ds t);
+        q .unique α β (p .unique α β h (satisfies-left α cs ds s) (satisfies-left β cs ds t)) (satisfies-right α cs ds s)
+        (satisfies-right β cs ds t);
     names = names-append c cs ds (names-more cs (q .grows) (p .names)) (q .names);
     opens = past-append a cs ds ∙ ap (λ (n : ℕ). past n ds) (p .opens) ∙ q .opens;
     distinct = all-distinct-append cs ds (p .distinct) (q .distinct);
@@ -276,7 +282,8 @@ module _ (Used : ℕ → Type 0) where
         let β : Assignment = put n (f α) α in
         (β, below (f α) α, forced β ∙ beq-true (β n) (f β) (put-same n (f α) α ∙ low α β (below (f α) α)));
     unique = λ α β h s t v p q.
-        ⊎-elim (λ (e : v ≡ n). subst (λ (u : ℕ). α u ≡ β u) (sym e) (says α s ∙ low α β h ∙ sym (says β t))) (λ l. h v p l) (eq-or-lt-of-le (le-of-suc-le-suc q));
+        ⊎-elim (λ (e : v ≡ n). subst (λ (u : ℕ). α u ≡ β u) (sym e) (says α s ∙ low α β h ∙ sym (says β t))) (λ l. h v p l)
+        (eq-or-lt-of-le (le-of-suc-le-suc q));
     names = shapes-names cs u shapes;
     opens = past-shapes cs u some shapes;
     distinct = distinct;
@@ -311,7 +318,8 @@ module _ (Used : ℕ → Type 0) (n : ℕ) where
   literal-used : (c : Clause) → Literals Used n c → (v : ℕ) → clause-names v c ≡ true → Used v × (v < n)
   literal-used [] i v e = absurd (false≢true e)
   literal-used (l ∷ c) i v e =
-      ⊎-elim (λ h. subst (λ (u : ℕ). Used u × (u < n)) (eqb-true (l .variable) v h) (i .0)) (λ h. literal-used c (i .1) v h) (or-true (eqb (l .variable) v) _ e)
+      ⊎-elim (λ h. subst (λ (u : ℕ). Used u × (u < n)) (eqb-true (l .variable) v h) (i .0)) (λ h. literal-used c (i .1) v h)
+      (or-true (eqb (l .variable) v) _ e)
 
   -- a variable that stands in some clause may stand there
   pub named-used : (cs : List Clause) → Names Used n cs → (v : ℕ) → clauses-name v cs ≡ true → Used v × (v < n)
@@ -332,7 +340,8 @@ module _ (Used : ℕ → Type 0) (n : ℕ) where
       (literals-other c (i .0) v (o .0), names-other cs (i .1) v (o .1))
 
 -- each variable that is opened stands in some clause: with none of it both its values would do
-pub opened-named : (Used : ℕ → Type 0) {a b : ℕ} {cs : List Clause} → Extends Used a b cs → (v : ℕ) → Used v → a ≤ v → v < b → clauses-name v cs ≡ true
+pub opened-named : (Used : ℕ → Type 0) {a b : ℕ} {cs : List Clause} → Extends Used a b cs → (v : ℕ) → Used v → a ≤ v → v < b
+    → clauses-name v cs ≡ true
 opened-named Used {a} {b} {cs} x v u l h = go (clauses-name v cs) refl
   where
     go : (d : Bool) → clauses-name v cs ≡ d → d ≡ true
@@ -375,7 +384,8 @@ never-beside (k ∷ c) d l s t =
     (λ u. named-once k (negation l) c (d .0) (ap (λ (m : Literal). m .variable) (sym e)) u)
     t)
     (λ r.
-    ⊎-elim (λ (g : negation l ≡ k). named-once k l c (d .0) (ap (λ (m : Literal). m .variable) (sym g)) r) (λ u. never-beside c (d .1) l r u) t)
+    ⊎-elim (λ (g : negation l ≡ k). named-once k l c (d .0) (ap (λ (m : Literal). m .variable) (sym g)) r)
+    (λ u. never-beside c (d .1) l r u) t)
     s
 
 pub never-beside-in : (cs : List Clause) → All-distinct cs → (c : Clause) → Stands-in c cs

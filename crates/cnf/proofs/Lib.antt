@@ -1,3 +1,4 @@
+pub mod Flips
 pub mod Extend
 pub mod Words
 pub mod Sign

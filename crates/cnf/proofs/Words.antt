@@ -15,7 +15,8 @@ use Rattle.cnf.proofs.Extend.{Literals, Names, past-clause, past, or-tr
 
 pub words-append : (cs ds : List Clause) → words (cs ++ ds) ≡ words cs ++ words ds
 words-append [] ds = refl
-words-append (c ∷ cs) ds = ap (λ (ws : List ℤ). map word c ++ (pos 0 ∷ ws)) (words-append cs ds) ∙ sym (append-assoc (map word c) (pos 0 ∷ words cs) (words ds))
+words-append (c ∷ cs) ds =
+    ap (λ (ws : List ℤ). map word c ++ (pos 0 ∷ ws)) (words-append cs ds) ∙ sym (append-assoc (map word c) (pos 0 ∷ words cs) (words ds))
 
 -- ---- reading
 
@@ -28,7 +29,8 @@ read-literal c l ws h = go (l .negated) (l .variable) h
     go false (suc v) h = refl
     go true (suc v) h = refl
 
-read-clause : (n : ℕ) (c d : Clause) (ws : List ℤ) → Literals From-1 n d → clauses-from c (map word d ++ (pos 0 ∷ ws)) ≡ (c ++ d) ∷ clauses-from [] ws
+read-clause : (n : ℕ) (c d : Clause) (ws : List ℤ) → Literals From-1 n d
+    → clauses-from c (map word d ++ (pos 0 ∷ ws)) ≡ (c ++ d) ∷ clauses-from [] ws
 unfolding clauses-from
 read-clause n c [] ws i = ap (λ (e : Clause). e ∷ clauses-from [] ws) (sym (append-nil c))
 read-clause n c (l ∷ d) ws i =
@@ -63,7 +65,8 @@ names-later v g gs e = go (eqb (named g) v)
 
 pub names-below : (n : ℕ) (gs : List ℤ) (v : ℕ) → Distinct-below n gs → names v gs ≡ true → (0 < v) × (v < n)
 names-below n [] v d m = absurd (false≢true m)
-names-below n (g ∷ gs) v d m = ⊎-elim (λ (e : v ≡ named g). (omega (arith, d .0), omega (arith, d .1))) (names-below n gs v (d .3)) (names-either v g gs m)
+names-below n (g ∷ gs) v d m =
+    ⊎-elim (λ (e : v ≡ named g). (omega (arith, d .0), omega (arith, d .1))) (names-below n gs v (d .3)) (names-either v g gs m)
 
 pub named-word : (l : Literal) → named (word l) ≡ l .variable
 named-word l = go (l .negated) (l .variable)
@@ -75,11 +78,15 @@ named-word l = go (l .negated) (l .variable)
 
 -- ---- the highest variable
 
-highest-clause : (h : ℕ) (c : Clause) (ws : List ℤ) → (k : ℕ) × (suc k ≡ past-clause (suc h) c) × (highest-named h (map word c ++ (pos 0 ∷ ws)) ≡ highest-named k ws)
+highest-clause : (h : ℕ) (c : Clause) (ws : List ℤ) → (k : ℕ) × (suc k ≡ past-clause (suc h) c)
+    × (highest-named h (map word c ++ (pos 0 ∷ ws)) ≡ highest-named k ws)
 highest-clause h [] ws = (h, refl, ap (λ (k : ℕ). highest-named k ws) (max-zero h))
 highest-clause h (l ∷ c) ws =
-    let k = highest-clause (max h (l .variable)) c ws in
-    (k .0, k .1 ∙ ap (λ (n : ℕ). past-clause n c) (sym (suc-max-suc h (l .variable))), ap (λ (v : ℕ). highest-named (max h v) (map word c ++ (pos 0 ∷ ws))) (named-word l) ∙ k .2)
+    let k = highest-clause (max h (l .variable)) c ws in (
+      k .0,
+      k .1 ∙ ap (λ (n : ℕ). past-clause n c) (sym (suc-max-suc h (l .variable))),
+      ap (λ (v : ℕ). highest-named (max h v) (map word c ++ (pos 0 ∷ ws))) (named-word l) ∙ k .2,
+    )
 
 pub highest-of-words : (h : ℕ) (cs : List Clause) → suc (highest-named h (words cs)) ≡ past (suc h) cs
 highest-of-words h [] = refl

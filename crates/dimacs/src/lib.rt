@@ -6,16 +6,14 @@ mod read;
 mod text;
 
 use wording::Printed;
-ghost use mathlib.Core.Path.{_≡_};
-ghost use Rattle.wording.specs.Print.{filed};
+ghost use Rattle.wording.specs.Print.{Files};
 
 // Every file fits into a room of this length.
 pub const ROOM: usize = 262_144;
 
 // Puts what the program prints for its whole input into the front of a room.
 pub fn file(input: &[u8], out: &mut [u8]) -> Printed
-    ensures { λ r. ⌜ r ≡ filed (now (input .entry)) (now (out .entry)) .answer ⌝ }
-    ensures { λ r. ⌜ now (out .exit) ≡ filed (now (input .entry)) (now (out .entry)) .room ⌝ }
+    ensures { λ r. ⌜ Files (now (input .entry)) (now (out .entry)) r (now (out .exit)) ⌝ }
 {
     if out.len() < ROOM {
         return Printed::Short;

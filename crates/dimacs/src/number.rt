@@ -1,5 +1,4 @@
 // Bytes and numbers put at a place of a lent room. Each call answers the place behind what it put.
-ghost use mathlib.Core.Path.{_≡_};
 ghost use mathlib.Core.List.{[], _∷_};
 ghost use Prim.Native.Nat.{_+_, _≤_, _<_};
 ghost use lib.ListN.{length};

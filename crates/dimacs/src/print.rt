@@ -10,6 +10,8 @@ use wording::Request;
 ghost use mathlib.Core.Path.{_≡_};
 ghost use Prim.Native.Nat.{_+_, _*_, _≤_};
 ghost use lib.ListN.{length};
+ghost use Rattle.dimacs.specs.Sizes.{program-words, program-work};
+ghost use Rattle.wording.specs.Print.{file-room};
 ghost use Rattle.line.specs.Refusal.{refusal-number};
 ghost use Rattle.dimacs.specs.Put.{Put};
 ghost use Rattle.wording.specs.Print.{answered, printed};
@@ -39,51 +41,47 @@ fn put_written(
 {
     match written {
         Written::Refused(x) => put_refusal(out, x),
-        Written::Clauses {
-            words: k,
-            clauses,
-            next,
-            bits: b,
-        } => put_file(
+        Written::Clauses(n) => put_file(
             out,
             c as u64,
             w as u64,
-            &bits[..b],
-            next as u64 - 1,
-            clauses as u64,
-            &words[..k],
+            &bits[..n.bits],
+            n.next as u64 - 1,
+            n.clauses as u64,
+            &words[..n.words],
         ),
     }
 }
 
-// The rooms are long enough for every constant and width. The long ones are made by a call, so that the caller's proof sees their length and no entry.
+// The rooms are long enough for every constant and width. The long ones are made by a call, so that the caller's proof sees their length
+// and no entry.
 
-// 2^(L-1) splits for L = 16 bits.
-const WORK_BYTES: usize = 32_768;
+// 2^(L-1) splits.
+const WORK_BYTES: usize = 1 << (Line::MOST_BITS - 1);
 
-// L div 2 = 8 lines of five bytes.
-const RECIPE_BYTES: usize = 40;
+// L div 2 lines.
+const RECIPE_BYTES: usize = Line::BYTES * (Line::MOST_BITS / 2);
 
-// c * (2^w - 1) has at most L + w = 32 bits.
-const BITS: usize = 32;
+// c * (2^w - 1) has at most L + w bits.
+const BITS: usize = Line::MOST_BITS + Line::MOST_WIDTH as usize;
 
-// 8 lines of at most 32 columns, each of at most 64 words.
-const WORDS: usize = 16_384;
+// That many columns in each line, and at most 64 words in a column.
+const WORDS: usize = Line::MOST_BITS / 2 * BITS * 64;
 
 fn work_room() -> [u8; WORK_BYTES]
-    ensures { λ r. ⌜ 32768 ≡ length r ⌝ }
+    ensures { λ r. ⌜ program-work ≡ length r ⌝ }
 {
     [0; WORK_BYTES]
 }
 
 fn word_room() -> [i32; WORDS]
-    ensures { λ r. ⌜ 16384 ≡ length r ⌝ }
+    ensures { λ r. ⌜ program-words ≡ length r ⌝ }
 {
     [0; WORDS]
 }
 
 fn put_recipe(out: &mut [u8], c: u32, w: u32, recipe: &[u8]) -> usize
-    requires { ⌜ 262144 ≤ length (now out) ⌝ }
+    requires { ⌜ file-room ≤ length (now out) ⌝ }
     ensures { λ r. ⌜ Put (now (out .entry)) (now (out .exit)) 0 r (recipe-text c w (now (recipe .entry))) ⌝ }
 {
     let mut bits = [0; BITS];
@@ -93,7 +91,7 @@ fn put_recipe(out: &mut [u8], c: u32, w: u32, recipe: &[u8]) -> usize
 }
 
 fn put_planned(out: &mut [u8], c: u32, w: u32, planned: Planned, recipe: &[u8]) -> usize
-    requires { ⌜ (Planned-fits planned (length (now recipe))) × (262144 ≤ length (now out)) ⌝ }
+    requires { ⌜ (Planned-fits planned (length (now recipe))) × (file-room ≤ length (now out)) ⌝ }
     ensures { λ r. ⌜ Put (now (out .entry)) (now (out .exit)) 0 r (planned-text planned c w (now (recipe .entry))) ⌝ }
 {
     match planned {
@@ -103,7 +101,7 @@ fn put_planned(out: &mut [u8], c: u32, w: u32, planned: Planned, recipe: &[u8]) 
 }
 
 fn put_product(out: &mut [u8], c: u32, w: u32) -> usize
-    requires { ⌜ 262144 ≤ length (now out) ⌝ }
+    requires { ⌜ file-room ≤ length (now out) ⌝ }
     ensures { λ r. ⌜ Put (now (out .entry)) (now (out .exit)) 0 r (answered split-of (Asked c w)) ⌝ }
 {
     let mut work = work_room();
@@ -113,7 +111,7 @@ fn put_product(out: &mut [u8], c: u32, w: u32) -> usize
 }
 
 pub(crate) fn put_answer(out: &mut [u8], input: &[u8]) -> usize
-    requires { ⌜ 262144 ≤ length (now out) ⌝ }
+    requires { ⌜ file-room ≤ length (now out) ⌝ }
     ensures { λ r. ⌜ Put (now (out .entry)) (now (out .exit)) 0 r (printed (now (input .entry))) ⌝ }
 {
     let request = read_request(input);

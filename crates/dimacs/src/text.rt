@@ -11,7 +11,8 @@ ghost use Rattle.dimacs.specs.Put.{Put};
 // A name, a number and a byte behind it.
 pub(crate) fn put_number(out: &mut [u8], at: usize, name: &[u8], n: u64, last: u8) -> usize
     requires { ⌜ at + (length (now name) + 21) ≤ length (now out) ⌝ }
-    ensures { λ r. ⌜ Put (now (out .entry)) (now (out .exit)) at r (number-text (now (name .entry)) n last) × (r ≤ at + (length (now (name .entry)) + 21)) ⌝ }
+    ensures { λ r. ⌜ Put (now (out .entry)) (now (out .exit)) at r (number-text (now (name .entry)) n last)
+        × (r ≤ at + (length (now (name .entry)) + 21)) ⌝ }
 {
     let a = put_bytes(out, at, name);
     let b = put_decimal(out, a, n);
@@ -20,7 +21,8 @@ pub(crate) fn put_number(out: &mut [u8], at: usize, name: &[u8], n: u64, last: u
 
 fn put_two_numbers(out: &mut [u8], at: usize, name: &[u8], m: u64, n: u64) -> usize
     requires { ⌜ at + (length (now name) + 42) ≤ length (now out) ⌝ }
-    ensures { λ r. ⌜ Put (now (out .entry)) (now (out .exit)) at r (two-numbers (now (name .entry)) m n) × (r ≤ at + (length (now (name .entry)) + 42)) ⌝ }
+    ensures { λ r. ⌜ Put (now (out .entry)) (now (out .exit)) at r (two-numbers (now (name .entry)) m n)
+        × (r ≤ at + (length (now (name .entry)) + 42)) ⌝ }
 {
     let e = put_number(out, at, name, m, b' ');
     put_number(out, e, b"", n, b'\n')
@@ -28,7 +30,8 @@ fn put_two_numbers(out: &mut [u8], at: usize, name: &[u8], m: u64, n: u64) -> us
 
 fn put_entries(out: &mut [u8], at: usize, ys: &[i32]) -> usize
     requires { ⌜ at + 12 * length (now ys) ≤ length (now out) ⌝ }
-    ensures { λ r. ⌜ Put (now (out .entry)) (now (out .exit)) at r (entries (now (ys .entry))) × (r ≤ at + 12 * length (now (ys .entry))) ⌝ }
+    ensures { λ r. ⌜ Put (now (out .entry)) (now (out .exit)) at r (entries (now (ys .entry)))
+        × (r ≤ at + 12 * length (now (ys .entry))) ⌝ }
 {
     let mut e = at;
     let mut i: usize = 0;
@@ -42,7 +45,8 @@ fn put_entries(out: &mut [u8], at: usize, ys: &[i32]) -> usize
 
 fn put_line_2(out: &mut [u8], at: usize, ys: &[i32]) -> usize
     requires { ⌜ at + (4 + 12 * length (now ys)) ≤ length (now out) ⌝ }
-    ensures { λ r. ⌜ Put (now (out .entry)) (now (out .exit)) at r (line-2 (now (ys .entry))) × (r ≤ at + (4 + 12 * length (now (ys .entry)))) ⌝ }
+    ensures { λ r. ⌜ Put (now (out .entry)) (now (out .exit)) at r (line-2 (now (ys .entry)))
+        × (r ≤ at + (4 + 12 * length (now (ys .entry)))) ⌝ }
 {
     let a = put_bytes(out, at, b"c y");
     let b = put_entries(out, a, ys);
@@ -62,7 +66,8 @@ fn put_word(out: &mut [u8], at: usize, z: i32) -> usize
 
 fn put_words(out: &mut [u8], at: usize, words: &[i32]) -> usize
     requires { ⌜ at + 12 * length (now words) ≤ length (now out) ⌝ }
-    ensures { λ r. ⌜ Put (now (out .entry)) (now (out .exit)) at r (words-text (now (words .entry))) × (r ≤ at + 12 * length (now (words .entry))) ⌝ }
+    ensures { λ r. ⌜ Put (now (out .entry)) (now (out .exit)) at r (words-text (now (words .entry)))
+        × (r ≤ at + 12 * length (now (words .entry))) ⌝ }
 {
     let mut e = at;
     let mut i: usize = 0;

@@ -12,7 +12,7 @@ use lib.IntN.{pos, negℤ}
 use Rattle.cnf.specs.Clause.{Literal, signed, negation, new}
 use Rattle.cnf.specs.Words.{word}
 use Rattle.product.specs.Bit.{Bit, fixed, unfixed, flip, num, stored}
-use Rattle.product.specs.Column.{odd}
+use Rattle.product.specs.Column.{is-odd}
 use Rattle.product.proofs.ColumnMeans.{odd-mod}
 use Rattle.gates.specs.Code.{code-sign, literal-of, bit-of, bits-of, negated-code, flipped-code}
 
@@ -34,21 +34,23 @@ negated-odd b e = ap (λ (t : Bool). cond t (b + 1) (b - 1)) (ne-eqb (b % 2) 0 e
 
 pub even-or-odd : {A : Type 0} (b : ℕ) → (b % 2 ≡ 0 → A) → ((b % 2 ≡ 0 → ⊥) → A) → A
 even-or-odd {A} b f g =
-    let go : (t : Bool) → eqb (b % 2) 0 ≡ t → A = λ t. elim t [ true ↦ λ e. f (eqb-true (b % 2) 0 e) | false ↦ λ e. g (eqb-false (b % 2) 0 e) ] in
+    let go : (t : Bool) → eqb (b % 2) 0 ≡ t → A =
+    λ t. elim t [ true ↦ λ e. f (eqb-true (b % 2) 0 e) | false ↦ λ e. g (eqb-false (b % 2) 0 e) ] in
     go (eqb (b % 2) 0) refl
 
 -- the parity of f, in the two ways that it is said
-by-odd : {A : Type 0} (f : ℕ) → (f % 2 ≡ 1 → odd f ≡ true → A) → (f % 2 ≡ 0 → odd f ≡ false → A) → A
+by-odd : {A : Type 0} (f : ℕ) → (f % 2 ≡ 1 → is-odd f ≡ true → A) → (f % 2 ≡ 0 → is-odd f ≡ false → A) → A
 by-odd {A} f g h =
-    let go : (t : Bool) → odd f ≡ t → A = λ t. elim t [
+    let go : (t : Bool) → is-odd f ≡ t → A = λ t. elim t [
       | true ↦ λ e. g (sym (odd-mod f) ∙ ap num e) e
       | false ↦ λ e. h (sym (odd-mod f) ∙ ap num e) e
     ] in
-    go (odd f) refl
+    go (is-odd f) refl
 
 -- ---- literals
 
-literal-eq : (v u : ℕ) (s t : Bool) → v ≡ u → s ≡ t → _≡_ {A = Literal} (record { variable = v; negated = s }) (record { variable = u; negated = t })
+literal-eq : (v u : ℕ) (s t : Bool) → v ≡ u → s ≡ t
+    → _≡_ {A = Literal} (record { variable = v; negated = s }) (record { variable = u; negated = t })
 literal-eq v u s t p q = ap₂ (λ (x : ℕ) (y : Bool). record { variable = x; negated = y }) p q
 
 pub literal-negated : (b : ℕ) → literal-of (negated-code b) ≡ negation (literal-of b)
@@ -57,10 +59,12 @@ literal-negated b =
     even-or-odd b
     (λ e.
     ap (λ (x : ℕ). literal-of x) (negated-even b e)
-    ∙ literal-eq ((b + 1) / 2) (b / 2) (code-sign (b + 1)) (not (code-sign b)) (omega arith) (sign-odd (b + 1) (λ q. omega arith) ∙ ap not (sym (sign-even b e))))
+    ∙ literal-eq ((b + 1) / 2) (b / 2) (code-sign (b + 1)) (not (code-sign b)) (omega arith)
+    (sign-odd (b + 1) (λ q. omega arith) ∙ ap not (sym (sign-even b e))))
     (λ e.
     ap (λ (x : ℕ). literal-of x) (negated-odd b e)
-    ∙ literal-eq ((b - 1) / 2) (b / 2) (code-sign (b - 1)) (not (code-sign b)) (omega (arith, e)) (sign-even (b - 1) (omega (arith, e)) ∙ ap not (sym (sign-odd b e))))
+    ∙ literal-eq ((b - 1) / 2) (b / 2) (code-sign (b - 1)) (not (code-sign b)) (omega (arith, e))
+    (sign-even (b - 1) (omega (arith, e)) ∙ ap not (sym (sign-odd b e))))
 
 pub literal-new : (z : ℕ) → literal-of (2 * z) ≡ new z
 unfolding literal-of
@@ -74,14 +78,14 @@ pub flipped-even : (b f : ℕ) → f % 2 ≡ 0 → flipped-code b f ≡ b
 unfolding flipped-code
 flipped-even b f e = ap (λ (t : Bool). cond t b (negated-code b)) (eq-eqb (f % 2) 0 e)
 
-literal-flipped : (b f : ℕ) → literal-of (flipped-code b f) ≡ signed (odd f) (literal-of b)
+literal-flipped : (b f : ℕ) → literal-of (flipped-code b f) ≡ signed (is-odd f) (literal-of b)
 literal-flipped b f =
     by-odd f
     (λ e o. ap (λ (x : ℕ). literal-of x) (flipped-odd b f e) ∙ (literal-negated b ∙ ap (λ (t : Bool). signed t (literal-of b)) (sym o)))
     (λ e o. ap (λ (x : ℕ). literal-of x) (flipped-even b f e) ∙ ap (λ (t : Bool). signed t (literal-of b)) (sym o))
 
-pub new-flipped : (z f : ℕ) → literal-of (flipped-code (2 * z) f) ≡ signed (odd f) (new z)
-new-flipped z f = literal-flipped (2 * z) f ∙ ap (λ (l : Literal). signed (odd f) l) (literal-new z)
+pub new-flipped : (z f : ℕ) → literal-of (flipped-code (2 * z) f) ≡ signed (is-odd f) (new z)
+new-flipped z f = literal-flipped (2 * z) f ∙ ap (λ (l : Literal). signed (is-odd f) l) (literal-new z)
 
 -- ---- bits
 
@@ -117,7 +121,9 @@ pub bit-negated : (b : ℕ) → bit-of (negated-code b) ≡ flip (bit-of b)
 bit-negated b = go (decLt b 2)
   where
     go : Dec (b < 2) → bit-of (negated-code b) ≡ flip (bit-of b)
-    go (no h) = bit-literal (negated-code b) (negated-ge b (omega arith)) ∙ (ap (λ (l : Literal). unfixed l) (literal-negated b) ∙ ap flip (sym (bit-literal b (omega arith))))
+    go (no h) =
+        bit-literal (negated-code b) (negated-ge b (omega arith))
+        ∙ (ap (λ (l : Literal). unfixed l) (literal-negated b) ∙ ap flip (sym (bit-literal b (omega arith))))
     go (yes h) = negated-small b h
 
 pub bit-at : (l : List ℕ) (j : ℕ) → getD (bits-of l) j (fixed false) ≡ bit-of (getD l j 0)

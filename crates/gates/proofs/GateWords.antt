@@ -1,7 +1,6 @@
 -- The words of gates and columns: how many they are, what codes have them, and where they go.
 use Prim.Native.Nat.{ℕ, _+_, _<_, _≤_}
 use mathlib.Core.Path.{_≡_, refl, ap, ap₂, _∙_}
-use mathlib.Core.Bool.{Bool, true, false, not}
 use mathlib.Core.List.{List}
 use native.Mathlib.Omega.{arith}
 use lib.Dec.{lit≤}
@@ -9,7 +8,7 @@ use lib.IntN.{ℤ, pos}
 use lib.ListN.{length, length-append}
 use lib.Seq.{sets}
 use borrow.Author.Tests.{lt-ltb, le-ltb}
-use Rattle.cnf.specs.Clause.{Clause, flips}
+use Rattle.cnf.specs.Clause.{Clause}
 use Rattle.cnf.specs.Words.{word, words}
 use Rattle.cnf.proofs.Words.{words-append}
 use Rattle.product.specs.Column.{parity, both, most}
@@ -18,7 +17,6 @@ use Rattle.gates.specs.Gate.{gate-clauses, column-clauses, taken, after}
 use Rattle.gates.specs.declared.Gate.{Gate}
 use Rattle.gates.specs.declared.Gate.the-variants.{Empty, ParityOfTwo, ParityOfThree, Both, Most}
 use Rattle.gates.specs.declared.Taken.{Taken}
-use Rattle.gates.proofs.Stores.{over-front}
 
 -- ---- how many
 
@@ -36,18 +34,26 @@ gate-taken-few g = gate-few g
 
 pub column-words : (a b : Gate) → length (words (column-clauses a b)) ≡ length (words (gate-clauses a)) + length (words (gate-clauses b))
 unfolding column-clauses
-column-words a b = ap (λ (l : List ℤ). length l) (words-append (gate-clauses a) (gate-clauses b)) ∙ length-append (words (gate-clauses a)) (words (gate-clauses b))
+column-words a b =
+    ap (λ (l : List ℤ). length l) (words-append (gate-clauses a) (gate-clauses b))
+    ∙ length-append (words (gate-clauses a)) (words (gate-clauses b))
 
 -- a column takes what its two gates take
 pub column-taken-is : (a b : Gate) → taken (column-clauses a b)
-    ≡ record { words = taken (gate-clauses a) .words + taken (gate-clauses b) .words; clauses = taken (gate-clauses a) .clauses + taken (gate-clauses b) .clauses }
+    ≡ record {
+      words = taken (gate-clauses a) .words + taken (gate-clauses b) .words;
+      clauses = taken (gate-clauses a) .clauses + taken (gate-clauses b) .clauses;
+    }
 unfolding taken column-clauses
-column-taken-is a b = ap₂ (λ (w c : ℕ). record { words = w; clauses = c }) (column-words a b) (length-append (gate-clauses a) (gate-clauses b))
+column-taken-is a b =
+    ap₂ (λ (w c : ℕ). record { words = w; clauses = c }) (column-words a b) (length-append (gate-clauses a) (gate-clauses b))
 
 pub column-few : (a b : Gate) → (taken (column-clauses a b) .words ≤ 80) × (taken (column-clauses a b) .clauses ≤ 16)
 column-few a b =
-    let e = column-taken-is a b in
-    (omega (arith, ap (λ (t : Taken). t .words) e, gate-taken-few a, gate-taken-few b), omega (arith, ap (λ (t : Taken). t .clauses) e, gate-taken-few a, gate-taken-few b))
+    let e = column-taken-is a b in (
+      omega (arith, ap (λ (t : Taken). t .words) e, gate-taken-few a, gate-taken-few b),
+      omega (arith, ap (λ (t : Taken). t .clauses) e, gate-taken-few a, gate-taken-few b),
+    )
 
 -- ---- which codes
 
@@ -56,21 +62,12 @@ pub zero-word : word (literal-of 0) ≡ pos 0
 unfolding literal-of
 zero-word = refl
 
--- in a parity's clauses the new variable stands as its literal or as the negation
-pub flips-false : (b : Bool) → flips b false ≡ b
-flips-false true = refl
-flips-false false = refl
-
-pub not-twice : (b : Bool) → not (not b) ≡ b
-not-twice true = refl
-not-twice false = refl
-
 -- ---- where they go
 
 module _ (cs : List Clause) (rest : List ℤ) where
   pub fits : length (words cs) ≤ length rest → sets rest 0 (words cs) ≡ after cs rest
   unfolding after
-  fits h = rw (le-ltb (length rest) (length (words cs)) h) (over-front rest (words cs) h)
+  fits h = rw (le-ltb (length rest) (length (words cs)) h) refl
 
   pub stays : length rest < length (words cs) → rest ≡ after cs rest
   unfolding after

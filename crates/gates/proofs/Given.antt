@@ -23,7 +23,8 @@ code-plain (negsuc n) e = absurd (false≢true (sym e))
 
 literal-given : (z : ℤ) → literal-of (code-of-word z) ≡ literal-of-word z
 literal-given (pos v) = literal-new v
-literal-given (negsuc v) = ap literal-of (sym (negated-even (2 * suc v) (omega arith))) ∙ literal-negated (2 * suc v) ∙ ap negation (literal-new (suc v))
+literal-given (negsuc v) =
+    ap literal-of (sym (negated-even (2 * suc v) (omega arith))) ∙ literal-negated (2 * suc v) ∙ ap negation (literal-new (suc v))
 
 code-large : (z : ℤ) → 0 < named z → 2 ≤ code-of-word z
 code-large (pos v) h = omega arith
@@ -33,4 +34,5 @@ code-large (negsuc v) h = omega arith
 pub bits-given : (first : ℕ) (x : List ℤ) → Distinct-below first x → bits-of (map code-of-word x) ≡ given x
 bits-given first [] i = refl
 bits-given first (l ∷ ls) i =
-    ap₂ (λ (b : Bit) (bs : List Bit). b ∷ bs) (bit-literal (code-of-word l) (code-large l (i .0)) ∙ ap unfixed (literal-given l)) (bits-given first ls (i .3))
+    ap₂ (λ (b : Bit) (bs : List Bit). b ∷ bs) (bit-literal (code-of-word l) (code-large l (i .0)) ∙ ap unfixed (literal-given l))
+    (bits-given first ls (i .3))

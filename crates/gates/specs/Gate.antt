@@ -3,8 +3,8 @@ use mathlib.Core.Bool.{cond}
 use mathlib.Core.List.{List, [], _∷_, _++_}
 use lib.Dec.{ltb}
 use lib.IntN.{ℤ}
+use lib.Seq.{sets}
 use lib.ListN.{length}
-use Rattle.line.specs.Room.{over}
 use Rattle.cnf.specs.Clause.{Clause}
 use Rattle.cnf.specs.Words.{words}
 use Rattle.product.specs.Column.{parity, both, most}
@@ -17,7 +17,8 @@ use Rattle.gates.specs.declared.Taken.{Taken}
 abbrev pub gate-clauses : Gate → List Clause
 gate-clauses Empty = []
 gate-clauses (ParityOfTwo p q z) = parity (literal-of p ∷ literal-of q ∷ []) (literal-of z .negated) (literal-of z .variable)
-gate-clauses (ParityOfThree p q r z) = parity (literal-of p ∷ literal-of q ∷ literal-of r ∷ []) (literal-of z .negated) (literal-of z .variable)
+gate-clauses (ParityOfThree p q r z) =
+    parity (literal-of p ∷ literal-of q ∷ literal-of r ∷ []) (literal-of z .negated) (literal-of z .variable)
 gate-clauses (Both p q t) = both (literal-of p) (literal-of q) (literal-of t)
 gate-clauses (Most p q r t) = most (literal-of p) (literal-of q) (literal-of r) (literal-of t)
 
@@ -28,6 +29,6 @@ column-clauses sum carry = gate-clauses sum ++ gate-clauses carry
 unfoldable pub taken : List Clause → Taken
 taken cs = record { words = length (words cs); clauses = length cs }
 
--- the words over the front of the rest, where they fit; else the rest stays
+-- the words from the front of the rest on, where they fit; else the rest stays
 unfoldable pub after : List Clause → List ℤ → List ℤ
-after cs rest = cond (ltb (length rest) (length (words cs))) rest (over (words cs) rest)
+after cs rest = cond (ltb (length rest) (length (words cs))) rest (sets rest 0 (words cs))

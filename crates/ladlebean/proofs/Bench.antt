@@ -7,23 +7,23 @@ use Rattle.cases.specs.Bench.{bench}
 use Rattle.cases.specs.Agreed.{agreed}
 use Rattle.split.specs.Choose.{split-of}
 use Rattle.split.proofs.Cases as split
-use Rattle.ladlebean.proofs.PlanCases as plan
+use Rattle.plan.proofs.Cases as plan
 use Rattle.recipe.proofs.Cases as recipe
 use Rattle.product.proofs.Cases as product
 use Rattle.propagate.proofs.Cases as propagate
 use Rattle.wording.proofs.Cases as dimacs
 
 -- every row of a table is what the definitions give
-pub record Right (table : Table) : Type 0 where
-  pub chosen : split.Right split-of (table .chosen)
-  pub planned : plan.Right split-of (table .planned)
+pub record As-worked (table : Table) : Type 0 where
+  pub chosen : split.As-worked split-of (table .chosen)
+  pub planned : plan.As-worked split-of (table .planned)
   pub plan-rooms : plan.RoomsRight split-of (table .plan-rooms)
-  pub checked : recipe.Right (table .checked)
-  pub written : product.Right table
-  pub propagated : propagate.Right (table .propagated)
-  pub printed : dimacs.Right split-of (table .printed)
+  pub checked : recipe.As-worked (table .checked)
+  pub written : product.As-worked table
+  pub propagated : propagate.As-worked (table .propagated)
+  pub printed : dimacs.As-worked split-of (table .printed)
 
-pub bench-right : Right bench
+pub bench-right : As-worked bench
 unfolding bench
 bench-right =
     record {
@@ -36,7 +36,7 @@ bench-right =
       printed = refl;
     }
 
-pub agreed-right : Right agreed
+pub agreed-right : As-worked agreed
 agreed-right =
     record {
       chosen = split.agreed-right;

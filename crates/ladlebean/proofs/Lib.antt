@@ -1,6 +1,5 @@
 pub mod Apart
 pub mod Once
-pub mod PlanCases
 pub mod Bench
 pub mod Demands
 pub mod OurWords

@@ -2,8 +2,9 @@
 -- the same in each room and field. `Learnt` is what a caller learns of an outcome, the contract's `ensures` as it stands in the code;
 -- nothing else is taken for granted, so a contract that left something open would be refused here.
 use Prim.Native.Nat.{ℕ}
-use mathlib.Core.Path.{_≡_, sym, _∙_}
+use mathlib.Core.Path.{_≡_, sym, ap, _∙_}
 use mathlib.Core.List.{List}
+use lib.IntN.{ℤ}
 use contract.Lifetimes.{Lfts}
 use denote.Ref.{now}
 use denote.Triple.Clauses.{AtExit}
@@ -20,6 +21,10 @@ use Rattle.line.proofs.twos.Kinds as TwosKinds
 use Rattle.line.proofs.twos.Reads as Twos
 use Rattle.line.proofs.odd_part.Kinds as OddPartKinds
 use Rattle.line.proofs.odd_part.Reads as OddPart
+use Rattle.line.proofs.out_of_range.Kinds as OutOfRangeKinds
+use Rattle.line.proofs.out_of_range.Reads as OutOfRange
+use Rattle.line.proofs.not_a_width.Kinds as NotAWidthKinds
+use Rattle.line.proofs.not_a_width.Reads as NotAWidth
 use Rattle.line.proofs.Line.gives.Kinds as LineGivesKinds
 use Rattle.line.proofs.Line.gives.Reads as LineGives
 use Rattle.line.proofs.magnitude.Kinds as MagnitudeKinds
@@ -34,6 +39,7 @@ use Rattle.recipe.proofs.check_lines.Kinds as CheckLinesKinds
 use Rattle.recipe.proofs.check_lines.Reads as CheckLines
 use Rattle.recipe.proofs.Checked.told.Kinds as CheckedToldKinds
 use Rattle.recipe.proofs.Checked.told.Reads as CheckedTold
+use Rattle.plan.specs.Plan.{Planning}
 use Rattle.plan.proofs.plan.Kinds as PlanKinds
 use Rattle.plan.proofs.plan.Reads as Plan
 use Rattle.plan.proofs.Planned.number.Kinds as PlannedNumberKinds
@@ -64,7 +70,11 @@ use Rattle.write.proofs.write.Kinds as WriteKinds
 use Rattle.write.proofs.write.Reads as Write
 use Rattle.dimacs.proofs.file.Kinds as FileKinds
 use Rattle.dimacs.proofs.file.Reads as File
-use Rattle.ladlebean.proofs.Apart.{apart-once}
+use Rattle.propagate.specs.Pass.{Propagating}
+use Rattle.wording.specs.Print.{Printing}
+use Rattle.product.specs.Write.{Writing, writing}
+use Rattle.product.specs.declared.Written.{Written}
+use Rattle.ladlebean.proofs.Apart.{told-once, apart-once}
 use Rattle.ladlebean.proofs.ladlebean_check.Kinds as ArchiveCheckKinds
 use Rattle.ladlebean.proofs.ladlebean_check.Reads as ArchiveCheck
 use Rattle.ladlebean.proofs.ladlebean_plan.Kinds as ArchivePlanKinds
@@ -104,6 +114,12 @@ twos-once κs a x y e f p q = p .0 ∙ sym (q .0)
 pub odd-part-once : Answers OddPartKinds.ps OddPartKinds.r OddPart.Learnt
 odd-part-once κs a x y e f p q = p .0 ∙ sym (q .0)
 
+pub out-of-range-once : Answers OutOfRangeKinds.ps OutOfRangeKinds.r OutOfRange.Learnt
+out-of-range-once κs a x y e f p q = p ∙ sym q
+
+pub not-a-width-once : Answers NotAWidthKinds.ps NotAWidthKinds.r NotAWidth.Learnt
+not-a-width-once κs a x y e f p q = p ∙ sym q
+
 pub line-gives-once : Answers LineGivesKinds.ps LineGivesKinds.r LineGives.Learnt
 line-gives-once κs a x y e f p q = p ∙ sym q
 
@@ -125,8 +141,11 @@ check-lines-once κs a x y e f p q = p ∙ sym q
 pub checked-told-once : Answers CheckedToldKinds.ps CheckedToldKinds.r CheckedTold.Learnt
 checked-told-once κs a x y e f p q = p ∙ sym q
 
-pub plan-once : Coincide PlanKinds.ps PlanKinds.r Plan.Learnt (λ κs x y e f. (x ≡ y) × (now (e .1 .0) ≡ now (f .1 .0)) × (now (e .1 .1 .0) ≡ now (f .1 .1 .0)))
-plan-once κs a x y e f p q = (p .0 ∙ sym (q .0), p .1 ∙ sym (q .1), p .2 ∙ sym (q .2))
+pub plan-once : Coincide PlanKinds.ps PlanKinds.r Plan.Learnt
+    (λ κs x y e f. (x ≡ y) × (now (e .1 .0) ≡ now (f .1 .0)) × (now (e .1 .1 .0) ≡ now (f .1 .1 .0)))
+plan-once κs a x y e f p q =
+    let z = p ∙ sym q in
+    (ap (λ (o : Planning). o .answer) z, ap (λ (o : Planning). o .work) z, ap (λ (o : Planning). o .recipe) z)
 
 pub planned-number-once : Answers PlannedNumberKinds.ps PlannedNumberKinds.r PlannedNumber.Learnt
 planned-number-once κs a x y e f p q = p .0 ∙ sym (q .0)
@@ -149,26 +168,45 @@ word-once κs a x y e f p q = p ∙ sym q
 pub named-once : Answers NamedKinds.ps NamedKinds.r Named.Learnt
 named-once κs a x y e f p q = p .0 ∙ sym (q .0)
 
-pub write-column-once : Coincide WriteColumnKinds.ps WriteColumnKinds.r WriteColumn.Learnt (λ κs x y e f. (x ≡ y) × (now (e .1 .1 .0) ≡ now (f .1 .1 .0)))
+pub write-column-once : Coincide WriteColumnKinds.ps WriteColumnKinds.r WriteColumn.Learnt
+    (λ κs x y e f. (x ≡ y) × (now (e .1 .1 .0) ≡ now (f .1 .1 .0)))
 write-column-once κs a x y e f p q = (p .0 ∙ sym (q .0), p .1 ∙ sym (q .1))
 
-pub write-once : Coincide WriteKinds.ps WriteKinds.r Write.Learnt (λ κs x y e f. (x ≡ y) × (now (e .1 .1 .1 .1 .1 .0) ≡ now (f .1 .1 .1 .1 .1 .0)) × (now (e .1 .1 .1 .1 .1 .1 .0) ≡ now (f .1 .1 .1 .1 .1 .1 .0)))
-write-once κs a x y e f p q = (p .0 ∙ sym (q .0), p .1 .0 ∙ sym (q .1 .0), p .1 .1 ∙ sym (q .1 .1))
+written-once : {o : Writing} {a a′ : Written} {b b′ c c′ : List ℤ} → writing a b c ≡ o → writing a′ b′ c′ ≡ o → (a ≡ a′) × (b ≡ b′)
+    × (c ≡ c′)
+written-once p q =
+    let e = p ∙ sym q in
+    (ap (λ (w : Writing). w .answer) e, ap (λ (w : Writing). w .bits) e, ap (λ (w : Writing). w .clauses) e)
 
-pub write-plain-once : Coincide WritePlainKinds.ps WritePlainKinds.r WritePlain.Learnt (λ κs x y e f. (x ≡ y) × (now (e .1 .1 .1 .0) ≡ now (f .1 .1 .1 .0)) × (now (e .1 .1 .1 .1 .0) ≡ now (f .1 .1 .1 .1 .0)))
-write-plain-once κs a x y e f p q = (p .0 ∙ sym (q .0), p .1 .0 ∙ sym (q .1 .0), p .1 .1 ∙ sym (q .1 .1))
+pub write-once : Coincide WriteKinds.ps WriteKinds.r Write.Learnt
+    (λ κs x y e f. (x ≡ y) × (now (e .1 .1 .1 .1 .1 .0) ≡ now (f .1 .1 .1 .1 .1 .0))
+    × (now (e .1 .1 .1 .1 .1 .1 .0) ≡ now (f .1 .1 .1 .1 .1 .1 .0)))
+write-once κs a x y e f p q = written-once p q
+
+pub write-plain-once : Coincide WritePlainKinds.ps WritePlainKinds.r WritePlain.Learnt
+    (λ κs x y e f. (x ≡ y) × (now (e .1 .1 .1 .0) ≡ now (f .1 .1 .1 .0)) × (now (e .1 .1 .1 .1 .0) ≡ now (f .1 .1 .1 .1 .0)))
+write-plain-once κs a x y e f p q = written-once p q
 
 pub file-once : Coincide FileKinds.ps FileKinds.r File.Learnt (λ κs x y e f. (x ≡ y) × (now (e .1 .0) ≡ now (f .1 .0)))
-file-once κs a x y e f p q = (p .0 ∙ sym (q .0), p .1 ∙ sym (q .1))
+file-once κs a x y e f p q =
+    let s = p .left ∙ sym (q .left) in
+    (ap (λ (o : Printing). o .answer) s, ap (λ (o : Printing). o .room) s)
 
 pub archive-check-once : Coincide ArchiveCheckKinds.ps ArchiveCheckKinds.r ArchiveCheck.Learnt (λ κs x y e f.
     (x ≡ y)
     × (now (e .1 .1 .0) ≡ now (f .1 .1 .0))
     × (now (e .1 .1 .1 .0) ≡ now (f .1 .1 .1 .0)))
-archive-check-once κs a x y e f p q = (p .0 ∙ sym (q .0), p .1 .0 ∙ sym (q .1 .0), p .1 .1 ∙ sym (q .1 .1))
+archive-check-once κs a x y e f p q = told-once p q
 
-pub archive-plan-once : Coincide ArchivePlanKinds.ps ArchivePlanKinds.r ArchivePlan.Learnt (λ κs x y e f. (x ≡ y) × (now (e .1 .0) ≡ now (f .1 .0)) × (now (e .1 .1 .0) ≡ now (f .1 .1 .0)) × (now (e .1 .1 .1 .0) ≡ now (f .1 .1 .1 .0)))
-archive-plan-once κs a x y e f p q = (p .0 ∙ sym (q .0), p .1 .0 ∙ sym (q .1 .0), p .1 .1 .0 ∙ sym (q .1 .1 .0), p .1 .1 .1 ∙ sym (q .1 .1 .1))
+pub archive-plan-once : Coincide ArchivePlanKinds.ps ArchivePlanKinds.r ArchivePlan.Learnt
+    (λ κs x y e f. (x ≡ y) × (now (e .1 .0) ≡ now (f .1 .0)) × (now (e .1 .1 .0) ≡ now (f .1 .1 .0))
+    × (now (e .1 .1 .1 .0) ≡ now (f .1 .1 .1 .0)))
+archive-plan-once κs a x y e f p q = (
+  p .number-told ∙ sym (q .number-told),
+  p .work-room ∙ sym (q .work-room),
+  p .recipe-room ∙ sym (q .recipe-room),
+  p .lines-told ∙ sym (q .lines-told),
+)
 
 pub archive-write-once : Coincide ArchiveWriteKinds.ps ArchiveWriteKinds.r ArchiveWrite.Learnt (λ κs x y e f.
     (x ≡ y)
@@ -200,8 +238,13 @@ propagated-number-once κs a x y e f p q = p .0 ∙ sym (q .0)
 pub propagated-clauses-once : Answers PropagatedClausesKinds.ps PropagatedClausesKinds.r PropagatedClauses.Learnt
 propagated-clauses-once κs a x y e f p q = p ∙ sym q
 
-pub propagate-once : Coincide PropagateKinds.ps PropagateKinds.r Propagate.Learnt (λ κs x y e f. (x ≡ y) × (now (e .1 .1 .1 .0) ≡ now (f .1 .1 .1 .0)))
-propagate-once κs a x y e f p q = (p .0 ∙ sym (q .0), p .1 ∙ sym (q .1))
+pub propagate-once : Coincide PropagateKinds.ps PropagateKinds.r Propagate.Learnt
+    (λ κs x y e f. (x ≡ y) × (now (e .1 .1 .1 .0) ≡ now (f .1 .1 .1 .0)))
+propagate-once κs a x y e f p q =
+    let s = p ∙ sym q in
+    (ap (λ (o : Propagating). o .answer) s, ap (λ (o : Propagating). o .room) s)
 
-pub archive-propagate-once : Coincide ArchivePropagateKinds.ps ArchivePropagateKinds.r ArchivePropagate.Learnt (λ κs x y e f. (x ≡ y) × (now (e .1 .1 .1 .0) ≡ now (f .1 .1 .1 .0)) × (now (e .1 .1 .1 .1 .0) ≡ now (f .1 .1 .1 .1 .0)))
-archive-propagate-once κs a x y e f p q = (p .0 ∙ sym (q .0), p .1 .0 ∙ sym (q .1 .0), p .1 .1 ∙ sym (q .1 .1))
+pub archive-propagate-once : Coincide ArchivePropagateKinds.ps ArchivePropagateKinds.r ArchivePropagate.Learnt
+    (λ κs x y e f. (x ≡ y) × (now (e .1 .1 .1 .0) ≡ now (f .1 .1 .1 .0)) × (now (e .1 .1 .1 .1 .0) ≡ now (f .1 .1 .1 .1 .0)))
+archive-propagate-once κs a x y e f p q =
+    (p .number-told ∙ sym (q .number-told), p .value-room ∙ sym (q .value-room), p .clauses-told ∙ sym (q .clauses-told))

@@ -1,6 +1,6 @@
--- Document 02 i: one pass over the words that writing left (`pass-multiplies`). Any answer and rooms that meet the contract of `write` and are no refusal; given
--- literals of distinct variables below the first free number, among them each of x or its negation, in any order; an allowance for every clause, and
--- an all-unknown room for every variable.
+-- Document 02 i: one pass over the words that writing left (`pass-multiplies`). Any answer and rooms that meet the contract of `write` and
+-- are no refusal; given literals of distinct variables below the first free number, among them each of x or its negation, in any order; an
+-- allowance for every clause, and an all-unknown room for every variable.
 --
 -- Of the clauses only this is used: they are steps that each open one variable (crates/cnf, `Extends`), and where they hold y is c times x.
 use Prim.Native.Nat.{ℕ, zero, suc, _+_, _*_, _≤_, _<_}
@@ -18,8 +18,8 @@ use Rattle.cnf.specs.Words.{named, names, Distinct-below}
 use Rattle.cnf.proofs.Words.{clauses-of-words, names-either, names-first, names-later}
 use Rattle.product.specs.Bit.{num}
 use Rattle.product.specs.Product.{product-of, clause-words}
-use Rattle.product.specs.Write.{written-number, clauses-written, next-free}
-use Rattle.product.specs.Demand.{entry-value, entries-read, Result, words-at-exit, entries-at-exit}
+use Rattle.product.specs.Write.{written-number, clauses-written, next-free, writing, written}
+use Rattle.product.specs.Demand.{entry-value, entries-read, words-at-exit, entries-at-exit}
 use Rattle.product.specs.declared.Written.{Written}
 use Rattle.product.proofs.Given.{given-named}
 use Rattle.product.proofs.WordsMean.{entries-multiply}
@@ -75,7 +75,8 @@ module _ (room : List ℕ) (l : ℤ) where
       go true e f = ap (λ (b : Bool). b || says gs l) (same-is g (t .0) (eqb-true (named g) (named l) e)) ∙ first-or-later true-there refl
       go false e f =
           ap (λ (b : Bool). b || says gs l) (not-same g (eqb-false (named g) (named l) e))
-          ∙ f (⊎-elim (λ (q : named l ≡ named g). absurd (eqb-false (named g) (named l) e (sym q))) (λ q. q) (names-either (named l) g gs m))
+          ∙ f (⊎-elim (λ (q : named l ≡ named g). absurd (eqb-false (named g) (named l) e (sym q))) (λ q. q)
+          (names-either (named l) g gs m))
 
   -- a literal of a known variable, read off the room
   entry-there : 0 < named l → value-at room (named l) ≤ 1 → entry-value (read-off room) l ≡ num true-there
@@ -105,7 +106,7 @@ number-there first room gs (l ∷ x) d t f =
 -- ---- the theorem
 
 module _ (c w : ℕ) (x : List ℤ) (first : ℕ) (recipe : List ℕ) (bits clauses : List ℤ) (answer : Written) (bits′ clauses′ : List ℤ)
-    (meets : Result c w x first recipe bits clauses answer bits′ clauses′) (succeeds : written-number answer ≡ 0)
+    (meets : writing answer bits′ clauses′ ≡ written c w x first recipe bits clauses) (succeeds : written-number answer ≡ 0)
     (gs : List ℤ) (distinct : Distinct-below first gs) (every : (v : ℕ) → names v x ≡ true → names v gs ≡ true)
     (allowance : ℕ) (enough : clauses-written answer ≤ allowance)
     (room : List ℕ) (unknown : all-unknown room ≡ true) (long : next-free answer ≤ suc (length room)) where
@@ -116,9 +117,9 @@ module _ (c w : ℕ) (x : List ℤ) (first : ℕ) (recipe : List ℕ) (bits clau
       let s = success c w x first recipe bits clauses answer bits′ clauses′ meets succeeds in
       let p = product-of c x first recipe in
       let o = propagated (clause-words p) gs allowance room in
-      let fit = s .tests .fit in
-      let f = product-of-multiplies c x first recipe (s .tests .makes) (s .some) fit in
-      let g = product-by c x first recipe (s .tests .makes) (Given-or-new gs first) (λ v l. inr l)
+      let fit = s .tests .inputs .fit in
+      let f = product-of-multiplies c x first recipe (s .tests .inputs .makes) (s .some) fit in
+      let g = product-by c x first recipe (s .tests .inputs .makes) (Given-or-new gs first) (λ v l. inr l)
       (given-named (Given-or-new gs first) first x fit (λ v e. inl (every v e))) in
       let en = ap next-free (s .is) in
       let a : Sets-all first (p .next) (p .clauses) gs room o =
@@ -126,7 +127,9 @@ module _ (c w : ℕ) (x : List ℤ) (first : ℕ) (recipe : List ℕ) (bits clau
       (omega (arith, enough, ap clauses-written (s .is))) (omega (arith, long, en)) in
       rw (s .words-are, s .entries-are, en)
       record {
-        sets = subst (λ (cs : List Clause). Sets-all first (p .next) cs gs room o) (sym (clauses-of-words (p .next) (p .clauses) (f .extends .names))) a;
+        sets =
+            subst (λ (cs : List Clause). Sets-all first (p .next) cs gs room o)
+            (sym (clauses-of-words (p .next) (p .clauses) (f .extends .names))) a;
         value = entries-multiply c x first fit (s .some) p f (read-off (o .room)) (a .satisfied)
             ∙ ap (λ (k : ℕ). c * k) (number-there first (o .room) gs x fit (a .holds) every);
       }

@@ -1,21 +1,18 @@
 // The archive for C: plan, check, write and one pass over words, over numbers and slices. A slice passes as a pointer and a length; each
 // field of an answer has a pointer to one number, and the refusal's number is the result.
 
-ghost use mathlib.Core.Path.{_≡_};
-ghost use Rattle.plan.specs.Plan.{planned, planned-number, planned-lines};
+ghost use Rattle.plan.specs.Plan.{planned};
 ghost use Rattle.recipe.specs.Check.{checked, checked-told};
 ghost use Rattle.product.specs.Write.{written, plain-written};
-ghost use Rattle.propagate.specs.Pass.{propagated, propagated-number, clauses-read};
-ghost use Rattle.ladlebean.specs.Archive.{Fields, Apart};
+ghost use Rattle.propagate.specs.Pass.{propagated};
+ghost use Rattle.ladlebean.specs.Archive.{Told-apart, Plan-apart, Fields, Apart, Pass-apart};
 use line::Told;
 use product::Written;
 
 // Whether a recipe is right for c: 0, or the refusal's number, with the bad line and the value that it gives.
 #[no_mangle]
 pub extern "C" fn ladlebean_check(c: u64, recipe: &[u8], line: &mut u64, value: &mut i64) -> u64
-    ensures { λ r. ⌜ r ≡ checked-told (checked c (now (recipe .entry))) .number ⌝ }
-    ensures { λ _. ⌜ now (line .exit) ≡ checked-told (checked c (now (recipe .entry))) .line ⌝ }
-    ensures { λ _. ⌜ now (value .exit) ≡ checked-told (checked c (now (recipe .entry))) .value ⌝ }
+    ensures { λ r. ⌜ Told-apart (checked-told (checked c (now (recipe .entry)))) r (now (line .exit)) (now (value .exit)) ⌝ }
 {
     tell(recipe::check(c, recipe).told(), line, value)
 }
@@ -23,10 +20,8 @@ pub extern "C" fn ladlebean_check(c: u64, recipe: &[u8], line: &mut u64, value: 
 // Plans a recipe for c: 0, or the refusal's number, with the number of lines.
 #[no_mangle]
 pub extern "C" fn ladlebean_plan(c: u64, work: &mut [u8], recipe: &mut [u8], lines: &mut u64) -> u64
-    ensures { λ r. ⌜ r ≡ planned-number (planned c (now (work .entry)) (now (recipe .entry)) .answer) ⌝ }
-    ensures { λ _. ⌜ now (work .exit) ≡ planned c (now (work .entry)) (now (recipe .entry)) .work ⌝ }
-    ensures { λ _. ⌜ now (recipe .exit) ≡ planned c (now (work .entry)) (now (recipe .entry)) .recipe ⌝ }
-    ensures { λ _. ⌜ now (lines .exit) ≡ planned-lines (planned c (now (work .entry)) (now (recipe .entry)) .answer) ⌝ }
+    ensures { λ r. ⌜ Plan-apart (planned c (now (work .entry)) (now (recipe .entry))) r (now (work .exit)) (now (recipe .exit))
+        (now (lines .exit)) ⌝ }
 {
     let planned = plan::plan(c, work, recipe);
     *lines = planned.lines() as u64;
@@ -91,10 +86,8 @@ pub extern "C" fn ladlebean_propagate(
     values: &mut [u8],
     clauses: &mut u64,
 ) -> u64
-    ensures { λ r. ⌜ r ≡ propagated-number (propagated (now (words .entry)) (now (given .entry)) allowance (now (values .entry)) .answer) ⌝ }
-    ensures { λ _. ⌜ now (values .exit) ≡ propagated (now (words .entry)) (now (given .entry)) allowance (now (values .entry)) .room ⌝ }
-    ensures { λ _. ⌜ now (clauses .exit)
-        ≡ clauses-read (propagated (now (words .entry)) (now (given .entry)) allowance (now (values .entry)) .answer) ⌝ }
+    ensures { λ r. ⌜ Pass-apart (propagated (now (words .entry)) (now (given .entry)) allowance (now (values .entry))) r
+        (now (values .exit)) (now (clauses .exit)) ⌝ }
 {
     let propagated = propagate::propagate(words, given, allowance, values);
     *clauses = propagated.clauses();
@@ -103,9 +96,7 @@ pub extern "C" fn ladlebean_propagate(
 
 // The number, with the line and the value apart.
 fn tell(told: Told, line: &mut u64, value: &mut i64) -> u64
-    ensures { λ r. ⌜ r ≡ told .number ⌝ }
-    ensures { λ _. ⌜ now (line .exit) ≡ told .line ⌝ }
-    ensures { λ _. ⌜ now (value .exit) ≡ told .value ⌝ }
+    ensures { λ r. ⌜ Told-apart told r (now (line .exit)) (now (value .exit)) ⌝ }
 {
     *line = told.line as u64;
     let z = told.value; // a field with a sign goes through a local

@@ -3,7 +3,8 @@
 use mathlib.Core.Path.{_≡_, refl, sym, ap, _∙_, subst}
 use mathlib.Core.Logic.{_⊎_, inl, inr, ⊎-elim}
 use Prim.Native.Nat.{ℕ, zero, suc, _+_, _*_, _/_, _%_, _^_, _≤_, _<_}
-use native.Mathlib.Nat.{two-pow-succ, pow-suc, mul-assoc, le-refl, le-antisymm, eq-zero-or-pos, lt-of-not-le, not-suc-le-zero, le-of-suc-le-suc, mul-le-mul-left}
+use native.Mathlib.Nat.{two-pow-succ, pow-suc, mul-assoc, le-refl, le-antisymm, eq-zero-or-pos, lt-of-not-le, not-suc-le-zero}
+use native.Mathlib.Nat.{le-of-suc-le-suc, mul-le-mul-left}
 use native.Mathlib.Decide.{decLt, ℕ-discrete}
 use native.Mathlib.Omega.{arith}
 use lib.Arith.{half-le, bin-ind}
@@ -64,9 +65,6 @@ bits-gt k n h = lt-of-not-le (λ g. omega (arith, lt-bits k n g))
 
 pub pow-le : (k n : ℕ) → k < bit-length n → 2 ^ k ≤ n
 pow-le k n h = le-of-suc-le-suc (lt-of-not-le (λ g. omega (arith, bits-le k n (omega arith))))
-
-pub bits-mono : (m n : ℕ) → m ≤ n → bit-length m ≤ bit-length n
-bits-mono m n h = bits-le (bit-length n) m (omega (arith, bits-lt n))
 
 -- a number has one bit length
 pub bits-is : (k n : ℕ) → 2 ^ k ≤ 2 * n + 1 → n < 2 ^ k → bit-length n ≡ k

@@ -5,7 +5,9 @@ use lib.IntN.{pos}
 use native.Mathlib.Omega.{arith}
 use Rattle.line.specs.Refusal.{refusal-number, refusal-line, refusal-value}
 use Rattle.line.specs.declared.Refusal.{Refusal}
-use Rattle.line.specs.declared.Refusal.the-variants.{Constant, Width, Length, Form, Operand, Even, Value, Product, BitRoom, ClauseRoom, WorkRoom, RecipeRoom, Input, Literals, Variables, Allowance, Words, Conflict, Given}
+use Rattle.line.specs.declared.Refusal.the-variants.{Constant, Width, Length, Form, Operand, Even, Value, Product, BitRoom}
+use Rattle.line.specs.declared.Refusal.the-variants.{ClauseRoom, WorkRoom, RecipeRoom, Input, Literals, Variables, Allowance, Words}
+use Rattle.line.specs.declared.Refusal.the-variants.{Conflict, Given}
 
 pub refusal-above-0 : (x : Refusal) → 0 < refusal-number x
 refusal-above-0 Constant = omega arith

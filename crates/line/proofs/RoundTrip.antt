@@ -1,5 +1,5 @@
--- A line and its five bytes: reading what a line packs to gives the line (`read-packed`), and packing what five bytes read as gives the bytes (`packed-read`),
--- whatever their top bit. Both go through the forty bits as one number. Assumes nothing.
+-- A line and its five bytes: reading what a line packs to gives the line (`read-packed`), and packing what five bytes read as gives the
+-- bytes (`packed-read`), whatever their top bit. Both go through the forty bits as one number. Assumes nothing.
 use mathlib.Core.Path.{_≡_, ap, _∙_, sym}
 use mathlib.Core.List.{List, [], _∷_}
 use Prim.Native.Nat.{ℕ, _+_, _*_, _/_, _%_, _^_, _<_}
@@ -61,18 +61,21 @@ bits-from v k j = sym (ap (λ (x : ℕ). x * 2 ^ j + v / 2 ^ k % 2 ^ j) (sym (sh
 field-from : (v k j : ℕ) → v / 2 ^ k ≡ v / 2 ^ (k + j) * 2 ^ j + v / 2 ^ k % 2 ^ j % 2 ^ j
 field-from v k j = bits-from v k j ∙ ap (λ (x : ℕ). v / 2 ^ (k + j) * 2 ^ j + x) (sym (mod-mod (v / 2 ^ k) (2 ^ j)))
 
-fields-joined : (v v₂₀ v₂₆ v₃₁ v₃₇ v₃₉ k r s l c t : ℕ) → v ≡ v₂₀ * 2 ^ 20 + k → v₂₀ ≡ v₂₆ * 2 ^ 6 + r → v₂₆ ≡ v₃₁ * 2 ^ 5 + s → v₃₁ ≡ v₃₇ * 2 ^ 6 + l
+fields-joined : (v v₂₀ v₂₆ v₃₁ v₃₇ v₃₉ k r s l c t : ℕ) → v ≡ v₂₀ * 2 ^ 20 + k → v₂₀ ≡ v₂₆ * 2 ^ 6 + r → v₂₆ ≡ v₃₁ * 2 ^ 5 + s
+    → v₃₁ ≡ v₃₇ * 2 ^ 6 + l
     → v₃₇ ≡ v₃₉ * 2 ^ 2 + c → t ≡ v₃₉ → ((((t * 2 ^ 2 + c) * 2 ^ 6 + l) * 2 ^ 5 + s) * 2 ^ 6 + r) * 2 ^ 20 + k ≡ v
 fields-joined v v₂₀ v₂₆ v₃₁ v₃₇ v₃₉ k r s l c t e₁ e₂ e₃ e₄ e₅ e₆ = omega arith
 
 forty-bits-of-line : (v : ℕ) → v < 2 ^ 40 → forty-bits (line-of v) ≡ v
 forty-bits-of-line v h =
     let low : v ≡ v / 2 ^ 20 * 2 ^ 20 + v % 2 ^ 20 % 2 ^ 20 = omega arith in
-    fields-joined v _ _ _ _ _ _ _ _ _ _ _ low (field-from v 20 6) (field-from v 26 5) (field-from v 31 6) (field-from v 37 2) (shr-mod {n = v} 1 39 h)
+    fields-joined v _ _ _ _ _ _ _ _ _ _ _ low (field-from v 20 6) (field-from v 26 5) (field-from v 31 6) (field-from v 37 2)
+    (shr-mod {n = v} 1 39 h)
 
 -- ---- forty bits and five bytes
 
-bytes-joined : (v v₁ v₂ v₃ v₄ b₀ b₁ b₂ b₃ b₄ : ℕ) → v ≡ v₁ * 256 + b₀ → v₁ ≡ v₂ * 256 + b₁ → v₂ ≡ v₃ * 256 + b₂ → v₃ ≡ v₄ * 256 + b₃ → b₄ ≡ v₄
+bytes-joined : (v v₁ v₂ v₃ v₄ b₀ b₁ b₂ b₃ b₄ : ℕ) → v ≡ v₁ * 256 + b₀ → v₁ ≡ v₂ * 256 + b₁ → v₂ ≡ v₃ * 256 + b₂ → v₃ ≡ v₄ * 256 + b₃
+    → b₄ ≡ v₄
     → (((b₄ * 256 + b₃) * 256 + b₂) * 256 + b₁) * 256 + b₀ ≡ v
 bytes-joined v v₁ v₂ v₃ v₄ b₀ b₁ b₂ b₃ b₄ e₀ e₁ e₂ e₃ e₄ = omega arith
 
@@ -80,7 +83,8 @@ number-of-bytes : (v : ℕ) → v < 2 ^ 40 → number (bytes-of v) ≡ v
 number-of-bytes v h =
     bytes-joined _ _ _ _ _ _ _ _ _ _ (sym (split v 8)) (bits-from v 8 8) (bits-from v 16 8) (bits-from v 24 8) (shr-mod {n = v} 8 32 h)
 
-bytes-of-five : (a b c d e : ℕ) → a < 256 → b < 256 → c < 256 → d < 256 → e < 256 → bytes-of (number (a ∷ b ∷ c ∷ d ∷ e ∷ [])) ≡ a ∷ b ∷ c ∷ d ∷ e ∷ []
+bytes-of-five : (a b c d e : ℕ) → a < 256 → b < 256 → c < 256 → d < 256 → e < 256
+    → bytes-of (number (a ∷ b ∷ c ∷ d ∷ e ∷ [])) ≡ a ∷ b ∷ c ∷ d ∷ e ∷ []
 bytes-of-five a b c d e ha hb hc hd he = λ i. first i ∷ second i ∷ third i ∷ fourth i ∷ fifth i ∷ []
   where
     first : number (a ∷ b ∷ c ∷ d ∷ e ∷ []) / 2 ^ 32 % 2 ^ 8 ≡ a

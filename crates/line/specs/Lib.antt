@@ -1,4 +1,5 @@
+pub mod Limits
 pub mod Number
 pub mod Line
 pub mod Refusal
-pub mod Room
+pub mod Order

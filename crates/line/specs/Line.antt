@@ -39,12 +39,20 @@ number b = (((getD b 0 0 * 256 + getD b 1 0) * 256 + getD b 2 0) * 256 + getD b 
 -- the line that forty bits are
 abbrev pub line-of : ℕ → Line
 line-of v =
-    record { top = v / 2 ^ 39; kind = v / 2 ^ 37 % 2 ^ 2; left = v / 2 ^ 31 % 2 ^ 6; shift = v / 2 ^ 26 % 2 ^ 5; right = v / 2 ^ 20 % 2 ^ 6; coefficient = v % 2 ^ 20 }
+    record {
+      top = v / 2 ^ 39;
+      kind = v / 2 ^ 37 % 2 ^ 2;
+      left = v / 2 ^ 31 % 2 ^ 6;
+      shift = v / 2 ^ 26 % 2 ^ 5;
+      right = v / 2 ^ 20 % 2 ^ 6;
+      coefficient = v % 2 ^ 20;
+    }
 
 -- the forty bits of a line
 abbrev pub forty-bits : Line → ℕ
 forty-bits l =
-    ((((l .top % 2 * 2 ^ 2 + l .kind % 2 ^ 2) * 2 ^ 6 + l .left % 2 ^ 6) * 2 ^ 5 + l .shift % 2 ^ 5) * 2 ^ 6 + l .right % 2 ^ 6) * 2 ^ 20 + l .coefficient % 2 ^ 20
+    ((((l .top % 2 * 2 ^ 2 + l .kind % 2 ^ 2) * 2 ^ 6 + l .left % 2 ^ 6) * 2 ^ 5 + l .shift % 2 ^ 5) * 2 ^ 6 + l .right % 2 ^ 6) * 2 ^ 20
+    + l .coefficient % 2 ^ 20
 
 -- the five bytes of forty bits
 abbrev pub bytes-of : ℕ → List ℕ

@@ -4,7 +4,9 @@ use Prim.Native.Nat.{ℕ}
 use lib.IntN.{ℤ, pos}
 use Rattle.line.specs.declared.Told.{Told}
 use Rattle.line.specs.declared.Refusal.{Refusal}
-use Rattle.line.specs.declared.Refusal.the-variants.{Constant, Width, Length, Form, Operand, Even, Value, Product, BitRoom, ClauseRoom, WorkRoom, RecipeRoom, Input, Literals, Variables, Allowance, Words, Conflict, Given}
+use Rattle.line.specs.declared.Refusal.the-variants.{Constant, Width, Length, Form, Operand, Even, Value, Product, BitRoom}
+use Rattle.line.specs.declared.Refusal.the-variants.{ClauseRoom, WorkRoom, RecipeRoom, Input, Literals, Variables, Allowance, Words}
+use Rattle.line.specs.declared.Refusal.the-variants.{Conflict, Given}
 
 -- a number and a line, with no value
 abbrev pub about : ℕ → ℕ → Told

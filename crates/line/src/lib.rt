@@ -6,6 +6,7 @@ ghost use lib.IntN.{pos, _-ℤ_, natAbs};
 ghost use lib.ListN.{getD};
 ghost use Rattle.line.specs.Number.{bit-length, twos, odd-part};
 ghost use Rattle.line.specs.Line.{gives-within, number, line-of, forty-bits, bytes-of};
+ghost use Rattle.line.specs.Limits.{out-of-range, not-a-width};
 ghost use Rattle.line.specs.Refusal.{told, refusal-number};
 
 // The fields of a line in the order of its forty bits.
@@ -34,6 +35,12 @@ impl Line {
     pub const MOST_CONSTANT: u64 = 65_535;
 
     pub const MOST_WIDTH: u64 = 16;
+
+    // The next free number is at most this.
+    pub const MOST_NEXT: u64 = 2_147_483_648;
+
+    // The bits of a constant.
+    pub const MOST_BITS: usize = 16;
 
     // A line of a kind, with the top bit zero.
     pub fn made(kind: u64, left: usize, shift: u64, right: usize, coefficient: u64) -> Self
@@ -184,6 +191,26 @@ pub fn odd_part(c: u64) -> u64
     c >> twos(c)
 }
 
+// Whether rule 1 refuses c.
+pub fn out_of_range(c: u64) -> bool
+    ensures { λ r. ⌜ r ≡ out-of-range c ⌝ }
+{
+    if c == 0 {
+        return true;
+    }
+    Line::MOST_CONSTANT < c
+}
+
+// Whether rule 2 refuses w.
+pub fn not_a_width(w: u32) -> bool
+    ensures { λ r. ⌜ r ≡ not-a-width w ⌝ }
+{
+    if w == 0 {
+        return true;
+    }
+    Line::MOST_WIDTH < w as u64
+}
+
 // The magnitude of a number with a sign; the least one has no negation of its own.
 pub fn magnitude(z: i64) -> u64
     ensures { λ r. ⌜ r ≡ natAbs z ⌝ }
@@ -217,6 +244,12 @@ pub enum Refusal {
     Words,
     Conflict,
     Given,
+}
+
+// What one test of a call says: nothing against it, or why the call refuses.
+pub enum Verdict {
+    Kept,
+    Broken(Refusal),
 }
 
 // What an answer tells of a refusal: the documents' number, the line and the value; zero where there is none.

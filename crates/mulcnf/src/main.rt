@@ -2,11 +2,12 @@
 use libc::STDIN_FILENO;
 use libc::STDOUT_FILENO;
 use wording::Printed;
+ghost use Rattle.wording.specs.Print.{file-room};
 ghost use mathlib.Core.Path.{_≡_};
 ghost use lib.ListN.{length};
 
 fn room() -> [u8; dimacs::ROOM]
-    ensures { λ r. ⌜ 262144 ≡ length r ⌝ }
+    ensures { λ r. ⌜ file-room ≡ length r ⌝ }
 {
     [0; dimacs::ROOM]
 }

@@ -1,18 +1,20 @@
 -- The bytes of lines, one after the other.
-use Prim.Native.Nat.{ℕ, zero, suc, _+_, _*_, _/_, _%_, _≤_, _<_}
-use mathlib.Core.Path.{_≡_, refl, sym, ap, ap₂, _∙_}
+use Prim.Native.Nat.{ℕ, zero, suc, _+_, _*_, _/_, _%_, _<_}
+use mathlib.Core.Path.{_≡_, refl, sym, ap, _∙_}
 use mathlib.Core.List.{List, [], _∷_, _++_, map, append-assoc, append-nil}
 use native.Mathlib.Omega.{arith}
-use lib.ListN.{length, take, drop, getD}
-use lib.Seq.{take-at, drop-at, drop-drop}
+use lib.ListN.{length, take, drop, getD, set}
+use lib.Seq.{length-take-le, sets}
+use Rattle.line.specs.Limits.{line-bytes}
 use Rattle.line.specs.Line.{bytes-of, forty-bits}
 use Rattle.line.specs.declared.Line.{Line}
+use Rattle.line.proofs.Room.{sets-append, store-next}
 use Rattle.split.specs.Choose.{look}
 use Rattle.split.specs.Order.{line-for, lines-bytes, operand}
 use Rattle.split.specs.Split.{left, right}
-use Rattle.plan.proofs.Rooms.{more}
+use Rattle.plan.proofs.Rooms.{take-next}
 
-pub bytes-length : (ls : List Line) → length (lines-bytes ls) ≡ 5 * length ls
+pub bytes-length : (ls : List Line) → length (lines-bytes ls) ≡ line-bytes * length ls
 unfolding lines-bytes
 bytes-length [] = refl
 bytes-length (l ∷ ls) = omega (arith, bytes-length ls)
@@ -29,7 +31,8 @@ module _ (f : ℕ → Line) where
   map-length (x ∷ xs) = ap suc (map-length xs)
 
   -- the bytes of a line, from its own place
-  pub line-bytes-at : (xs : List ℕ) (i : ℕ) → i < length xs → take 5 (drop (i * 5) (lines-bytes (map f xs))) ≡ bytes-of (forty-bits (f (getD xs i 0)))
+  pub line-bytes-at : (xs : List ℕ) (i : ℕ) → i < length xs → take 5 (drop (i * 5) (lines-bytes (map f xs)))
+      ≡ bytes-of (forty-bits (f (getD xs i 0)))
   unfolding lines-bytes
   line-bytes-at [] i h = absurd (omega arith)
   line-bytes-at (x ∷ xs) zero h = refl
@@ -37,20 +40,30 @@ module _ (f : ℕ → Line) where
       ap (λ (k : ℕ). take 5 (drop k (lines-bytes (map f (x ∷ xs))))) {x = suc i * 5} {y = suc (suc (suc (suc (suc (i * 5)))))} (omega arith)
       ∙ line-bytes-at xs i (omega arith)
 
-  -- one line more
-  pub lines-more : (l r₀ r : List ℕ) (i : ℕ) → i < length l → length (take i l) ≡ i
-      → r ≡ lines-bytes (map f (take i l)) ++ drop (5 * i) r₀
-      → take (5 * i) r ++ bytes-of (forty-bits (f (getD l i 0))) ++ drop (5 * i + 5) r ≡ lines-bytes (map f (take (i + 1) l)) ++ drop (5 * (i + 1)) r₀
-  lines-more l r₀ r i h k e =
+  -- one line more, behind those that were stored
+  pub lines-next : (l room₀ : List ℕ) (i : ℕ) → i < length l → length (take i l) ≡ i
+      → sets (sets room₀ 0 (lines-bytes (map f (take i l)))) (line-bytes * i) (bytes-of (forty-bits (f (getD l i 0))))
+      ≡ sets room₀ 0 (lines-bytes (map f (take (i + 1) l)))
+  lines-next l room₀ i h k =
       let B = lines-bytes (map f (take i l)) in
       let w = bytes-of (forty-bits (f (getD l i 0))) in
-      let n : length B ≡ 5 * i = bytes-length (map f (take i l)) ∙ ap (λ (z : ℕ). 5 * z) (map-length (take i l) ∙ k) in
-      let hd : take (5 * i) r ≡ B = ap (take (5 * i)) e ∙ take-at B (drop (5 * i) r₀) (5 * i) n in
-      let tl : drop (5 * i + 5) r ≡ drop (5 * (i + 1)) r₀ =
-      sym (drop-drop 5 (5 * i) r) ∙ ap (λ (z : List ℕ). drop 5 (drop (5 * i) z)) e ∙ ap (drop 5) (drop-at B (drop (5 * i) r₀) (5 * i) n)
-      ∙ drop-drop 5 (5 * i) r₀ ∙ ap (λ (z : ℕ). drop z r₀) {x = 5 * i + 5} {y = 5 * (i + 1)} (omega arith) in
-      ap₂ (λ (a b : List ℕ). a ++ w ++ b) hd tl
-      ∙ ap (λ (z : List ℕ). z ++ drop (5 * (i + 1)) r₀) (sym (bytes-snoc (take i l) (getD l i 0)) ∙ ap (λ (z : List ℕ). lines-bytes (map f z)) (sym (more l i h)))
+      let n : line-bytes * i ≡ 0 + length B = omega (arith, bytes-length (map f (take i l)), map-length (take i l), k) in
+      ap (λ (j : ℕ). sets (sets room₀ 0 B) j w) n
+      ∙ sets-append B w room₀ 0
+      ∙ ap (sets room₀ 0) (sym (bytes-snoc (take i l) (getD l i 0)) ∙ ap (λ (z : List ℕ). lines-bytes (map f z)) (sym (take-next l i h)))
+
+-- no line
+pub lines-none : (f : ℕ → Line) (room : List ℕ) → room ≡ sets room 0 (lines-bytes (map f []))
+unfolding lines-bytes
+lines-none f room = refl
+
+-- one byte more of b, behind those that were stored from at on
+pub store-more : (l r : List ℕ) (at : ℕ) (b : List ℕ) (i : ℕ) → i < length b → r ≡ sets l at (take i b)
+    → set r (at + i) (getD b i 0) ≡ sets l at (take (i + 1) b)
+store-more l r at b i h e =
+    ap (λ (z : List ℕ). set z (at + i) (getD b i 0)) e
+    ∙ store-next l (take i b) (getD b i 0) at i (length-take-le i b (omega arith))
+    ∙ ap (sets l at) (sym (take-next b i h))
 
 -- a line by the byte that was read, and by the operands that were found
 pub line-is : (l ks : List ℕ) (x : ℕ) {c u a v b : ℕ} → c ≡ look l x → u ≡ left c x → a ≡ operand u ks → v ≡ right c x → b ≡ operand v ks

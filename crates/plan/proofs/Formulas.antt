@@ -42,14 +42,16 @@ module _ {k p n : ℕ} (h : Splits k p n) {q : ℕ} (qe : q ≡ 2 ^ p) where
       arith,
       me,
       ltb-true p (bit-length n)
-          (and₃ (leb 1 p) (ltb p (bit-length n)) (eqb (high p n % 2) 0) (subst (λ (z : ℕ). legal-at (kind-of z) p n ≡ true) is-minuss (h .is-legal)) .1),
+          (and₃ (leb 1 p) (ltb p (bit-length n)) (eqb (high p n % 2) 0)
+          (subst (λ (z : ℕ). legal-at (kind-of z) p n ≡ true) is-minuss (h .is-legal)) .1),
     )
 
     pub room-high : n / q < 2 ^ (m - p)
     unfolding high
     room-high = rw (qe, me) (high-lt p n (omega (arith, below-top, me)))
 
-    pub by-minuss : {x y : ℕ} → x ≡ 2 ^ m → y ≡ 2 ^ (m - p) → (x - q + n % q ≡ left-at (kind-of k) p n) × (y - 1 - n / q ≡ right-at (kind-of k) p n)
+    pub by-minuss : {x y : ℕ} → x ≡ 2 ^ m → y ≡ 2 ^ (m - p) → (x - q + n % q ≡ left-at (kind-of k) p n)
+        × (y - 1 - n / q ≡ right-at (kind-of k) p n)
     unfolding left-at right-at high low kind-of
     by-minuss xe ye = rw (xe, ye, qe, me, is-minuss) (refl, refl)
 

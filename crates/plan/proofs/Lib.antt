@@ -4,10 +4,11 @@ pub mod Places
 pub mod Walks
 pub mod Above
 pub mod Counts
+pub mod Agrees
 pub mod Fills
 pub mod Puts
 pub mod Recipes
 pub mod Bytes
 pub mod Plans
-pub mod Exact
 pub mod Accepts
+pub mod Cases

@@ -1,4 +1,5 @@
--- The places of n's splits as the bits of a number: of n for SPLUS, of n's complement for the others. And from one bit that is set to the next.
+-- The places of n's splits as the bits of a number: of n for SPLUS, of n's complement for the others. And from one bit that is set to the
+-- next.
 use Prim.Native.Nat.{ℕ, suc, _+_, _-_, _*_, _/_, _%_, _^_, _≤_, _<_}
 use mathlib.Core.Path.{_≡_, sym, ap, _∙_, subst}
 use mathlib.Core.Bool.{true, false}
@@ -11,14 +12,13 @@ use lib.Pow.{pow-pos, pow-add, pow-mono, suc-ones, shr-lt, shr-shr, shl-shr, spl
 use borrow.Author.Tests.{eq-eqb, ne-eqb, ltb-true, leb-true}
 use Rattle.line.specs.Line.{Kind, kind-of, minuss, sminus, splus}
 use Rattle.line.specs.Number.{bit-length, odd-part, twos}
-use Rattle.split.specs.Choose.{best-below, lines}
+use Rattle.split.specs.Choose.{Cost, best-below}
 use Rattle.split.specs.Split.{high, legal, legal-at, low}
 use Rattle.plan.specs.Steps.{Places}
 use Rattle.line.proofs.Number.{lt-or-le, bits-lt, odd-part-odd, odd-part-whole}
 use Rattle.split.proofs.Choose.{as-legal, best-skip}
 use Rattle.split.proofs.Splits.{and₃, pow-even}
 use Rattle.plan.proofs.Formulas.{at-1, at-2, at-3, not-1, not-2, not-3}
-use Rattle.plan.proofs.Plans.{whole}
 
 -- ---- a number's complement
 
@@ -32,7 +32,8 @@ flipped M a p h le =
     let low : lo < 2 ^ p = mod-lt a (pow-pos p) in
     let less : hi < A = shr-lt (M - p) p (subst (λ (x : ℕ). a < 2 ^ x) (sym (sub-add-cancel le)) h) in
     let top : 2 ^ M ≡ (A - 1) * 2 ^ p + 2 ^ p =
-    ap (λ (x : ℕ). 2 ^ x) (sym (sub-add-cancel le)) ∙ pow-add 2 (M - p) p ∙ ap (λ (x : ℕ). x * 2 ^ p) (sym (suc-ones (M - p))) ∙ suc-mul (A - 1) (2 ^ p) in
+    ap (λ (x : ℕ). 2 ^ x) (sym (sub-add-cancel le)) ∙ pow-add 2 (M - p) p ∙ ap (λ (x : ℕ). x * 2 ^ p) (sym (suc-ones (M - p)))
+    ∙ suc-mul (A - 1) (2 ^ p) in
     let mid : (A - 1) * 2 ^ p ≡ (A - 1 - hi) * 2 ^ p + hi * 2 ^ p =
     ap (λ (x : ℕ). x * 2 ^ p) (sym (sub-add-cancel {n = A - 1} {m = hi} (omega arith))) ∙ add-mul (A - 1 - hi) hi (2 ^ p) in
     let r : 2 ^ p - 1 - lo < 2 ^ p = omega arith in
@@ -46,7 +47,8 @@ opposite x y hx hy e = ⊎-elim
 
 flip-bit : (M a p : ℕ) → a < 2 ^ M → p < M → eqb (a / 2 ^ p % 2) 0 ≡ eqb ((2 ^ M - 1 - a) / 2 ^ p % 2) 1
 flip-bit M a p h lt =
-    let less : a / 2 ^ p < 2 ^ (M - p) = shr-lt (M - p) p (subst (λ (x : ℕ). a < 2 ^ x) (sym (sub-add-cancel {n = M} {m = p} (omega arith))) h) in
+    let less : a / 2 ^ p < 2 ^ (M - p) =
+    shr-lt (M - p) p (subst (λ (x : ℕ). a < 2 ^ x) (sym (sub-add-cancel {n = M} {m = p} (omega arith))) h) in
     let even : 2 ^ (M - p) ≡ 2 ^ (M - p - 1) + 2 ^ (M - p - 1) = pow-even (M - p) (omega arith) in
     opposite (a / 2 ^ p % 2) ((2 ^ M - 1 - a) / 2 ^ p % 2) (omega arith) (omega arith)
     (omega (arith, ap (λ (x : ℕ). x % 2) (flipped M a p h (omega arith))))
@@ -110,38 +112,48 @@ module _ (places p rest : ℕ) (e : rest ≡ places / 2 ^ p) where
       let o : ℕ = odd-part rest in
       let q : ℕ = 2 ^ (z - i - 1) in
       let whole : rest ≡ o * 2 ^ (z - i) * 2 ^ i =
-      sym (odd-part-whole rest) ∙ ap (λ (x : ℕ). o * x) (ap (λ (x : ℕ). 2 ^ x) {x = z} {y = z - i + i} (omega arith) ∙ pow-add 2 (z - i) i) ∙ sym (mul-assoc o (2 ^ (z - i)) (2 ^ i)) in
+      sym (odd-part-whole rest) ∙ ap (λ (x : ℕ). o * x) (ap (λ (x : ℕ). 2 ^ x) {x = z} {y = z - i + i} (omega arith) ∙ pow-add 2 (z - i) i)
+      ∙ sym (mul-assoc o (2 ^ (z - i)) (2 ^ i)) in
       let half : rest / 2 ^ i ≡ o * 2 ^ (z - i) = ap (λ (x : ℕ). x / 2 ^ i) whole ∙ shl-shr (o * 2 ^ (z - i)) i in
       let double : o * 2 ^ (z - i) ≡ o * q + o * q = ap (λ (x : ℕ). o * x) (pow-even (z - i) (omega arith)) ∙ mul-add o q q in
       omega arith
 
   none-between : (j : ℕ) → p ≤ j → j < p + twos rest → eqb (places / 2 ^ j % 2) 1 ≡ false
   none-between j lo hi =
-      ne-eqb (places / 2 ^ j % 2) 1 (λ one. omega (arith, ap (λ (x : ℕ). places / 2 ^ x) {x = j} {y = p + (j - p)} (omega arith), from-rest (j - p), even-below (j - p) (omega arith)))
+      ne-eqb (places / 2 ^ j % 2) 1 (λ one. omega (
+        arith,
+        ap (λ (x : ℕ). places / 2 ^ x) {x = j} {y = p + (j - p)} (omega arith),
+        from-rest (j - p),
+        even-below (j - p) (omega arith),
+      ))
 
   none-after : rest ≡ 0 → (j : ℕ) → p ≤ j → eqb (places / 2 ^ j % 2) 1 ≡ false
   none-after z j lo =
-      ap (λ (x : ℕ). eqb (x % 2) 1) (ap (λ (x : ℕ). places / 2 ^ x) {x = j} {y = p + (j - p)} (omega arith) ∙ from-rest (j - p) ∙ ap (λ (x : ℕ). x / 2 ^ (j - p)) z
+      ap (λ (x : ℕ). eqb (x % 2) 1) (ap (λ (x : ℕ). places / 2 ^ x) {x = j} {y = p + (j - p)} (omega arith) ∙ from-rest (j - p)
+      ∙ ap (λ (x : ℕ). x / 2 ^ (j - p)) z
       ∙ div-eq-of-lt {n = 0} {m = 2 ^ (j - p)} (pow-pos (j - p)))
 
   pub rest-next : odd-part rest / 2 ≡ places / 2 ^ (p + twos rest + 1)
   rest-next = ap (λ (x : ℕ). x / 2) (sym next-is) ∙ shr-shr places (p + twos rest) 1
 
   -- the best split up to the next place, and past the last
-  module _ (t : ℕ → ℕ) (n k : ℕ) (few : bit-length n < 32) (one : 1 ≤ k) (three : k ≤ 3) (pl : Places k places n) (pos : 1 ≤ p) where
+  module _ (cost : Cost) (t : ℕ → ℕ) (n k : ℕ) (few : bit-length n < 32) (one : 1 ≤ k) (three : k ≤ 3) (pl : Places k places n)
+      (pos : 1 ≤ p) where
     pub next-legal : 0 < rest → legal-at (kind-of k) (p + twos rest) n ≡ true
     next-legal some = pl (p + twos rest) (omega arith) ∙ next-set some
 
     pub next-short : 0 < rest → p + twos rest ≤ bit-length n
     next-short some = legal-within (kind-of k) (p + twos rest) n (next-legal some)
 
-    skip : (a b : ℕ) → a ≤ b → b ≤ 32 → ((j : ℕ) → a ≤ j → j < b → legal-at (kind-of k) j n ≡ false) → best-below lines t n (32 * k + b) ≡ best-below lines t n (32 * k + a)
-    skip a b le short h = best-skip lines t n (32 * k + a) (32 * k + b) (omega arith)
+    skip : (a b : ℕ) → a ≤ b → b ≤ 32 → ((j : ℕ) → a ≤ j → j < b → legal-at (kind-of k) j n ≡ false)
+        → best-below cost t n (32 * k + b) ≡ best-below cost t n (32 * k + a)
+    skip a b le short h = best-skip cost t n (32 * k + a) (32 * k + b) (omega arith)
         (λ r lo hi. ap (λ (x : ℕ). legal x n) {x = r} {y = 32 * k + (r - 32 * k)} (omega arith)
         ∙ as-legal k (r - 32 * k) n one three (omega arith) ∙ h (r - 32 * k) (omega arith) (omega arith))
 
-    pub skip-to : 0 < rest → best-below lines t n (32 * k + (p + twos rest)) ≡ best-below lines t n (32 * k + p)
-    skip-to some = skip p (p + twos rest) (omega arith) (omega (arith, next-short some)) (λ j lo hi. pl j (omega arith) ∙ none-between j lo hi)
+    pub skip-to : 0 < rest → best-below cost t n (32 * k + (p + twos rest)) ≡ best-below cost t n (32 * k + p)
+    skip-to some = skip p (p + twos rest) (omega arith) (omega (arith, next-short some))
+        (λ j lo hi. pl j (omega arith) ∙ none-between j lo hi)
 
-    pub skip-past : rest ≡ 0 → p ≤ 32 → best-below lines t n (32 * k + 32) ≡ best-below lines t n (32 * k + p)
+    pub skip-past : rest ≡ 0 → p ≤ 32 → best-below cost t n (32 * k + 32) ≡ best-below cost t n (32 * k + p)
     skip-past z le = skip p 32 le (omega arith) (λ j lo hi. pl j (omega arith) ∙ none-after z j lo)

@@ -1,97 +1,68 @@
--- Planning: the refusals in their order, and what the steps give once nothing is refused.
-use Prim.Native.Nat.{ℕ, zero, suc, _-_, _*_, _/_, _%_, _^_, _≤_, _<_}
-use mathlib.Core.Path.{_≡_, refl, sym, ap, ap₂, _∙_}
-use mathlib.Core.Bool.{true, cond}
-use mathlib.Core.List.{List, [], _∷_, _++_, map}
+-- Planning: what the tests say of a constant and its rooms, and what the steps give once no test refuses.
+use Prim.Native.Nat.{ℕ, suc, _-_, _*_, _/_, _%_, _^_, _≤_, _<_}
+use mathlib.Core.Path.{_≡_, refl, sym, ap, ap₂, _∙_, subst}
+use mathlib.Core.Bool.{true}
+use mathlib.Core.List.{List, [], _∷_, map}
+use native.Mathlib.Nat.{le-refl}
 use native.Mathlib.Omega.{arith}
-use lib.Dec.{ltb}
-use lib.ListN.{length, drop}
-use lib.Pow.{pow-mono}
-use lib.Seq.{length-take-le}
-use borrow.Author.Tests.{eq-eqb, ne-eqb, lt-ltb, le-ltb}
+use lib.ListN.{length, take}
+use lib.Seq.{length-take-le, sets}
+use Rattle.line.proofs.Room.{take-sets}
+use Rattle.line.specs.Limits.{line-bytes, most-bits, most-constant}
 use Rattle.line.specs.Number.{bit-length, odd-part}
+use Rattle.line.specs.Order.{answer-by, first-broken}
 use Rattle.line.specs.declared.Line.{Line}
-use Rattle.line.specs.declared.Refusal.{Refusal}
-use Rattle.line.specs.declared.Refusal.the-variants.{Constant, RecipeRoom, WorkRoom}
-use Rattle.split.specs.Choose.{line-count, lines, look, split-of, splits, splits-from}
+use Rattle.line.specs.declared.Verdict.{Verdict}
+use Rattle.line.specs.declared.Verdict.the-variants.{Kept}
+use Rattle.split.specs.Choose.{line-count, lines, look, split-of, splits}
 use Rattle.split.specs.Order.{coefficients, line-for, lines-bytes, operand, ordered, recipe-for}
-use Rattle.split.specs.Reach.{member, set-of}
+use Rattle.split.specs.Reach.{member, set-of, turn}
 use Rattle.split.specs.Split.{left, legal, right}
-use Rattle.plan.specs.Plan.{Outcome, odd-bits, plan-answer, plan-by, plan-outcome, planned}
-use Rattle.plan.specs.Steps.{Coefficients, Sized, Table, Whole, Written, items}
-use Rattle.plan.specs.declared.Planned.{Planned}
+use Rattle.plan.specs.Plan.{Planning, odd-bits, plan-answer, plan-by, plan-outcome, plan-tests, planned, planning}
+use Rattle.plan.specs.Steps.{Coefficients, Holds-splits, Sized, Whole, Writes-line, items, set-room}
 use Rattle.plan.specs.declared.Planned.the-variants.{Lines, Refused}
-use Rattle.plan.specs.declared.Set.{Set}
-use Rattle.line.proofs.Number.{bits-le, bits-lt, bits-pos, odd-part-le, odd-part-odd}
-use Rattle.split.proofs.Choose.{split-chosen, splits-legal}
-use Rattle.split.proofs.Closed.{set-closed}
+use Rattle.plan.specs.declared.lines.Set.{Set}
+use Rattle.line.proofs.Number.{bits-le, bits-pos, odd-part-le, odd-part-odd}
+use Rattle.line.proofs.Order.{all-kept, kept-all, kept-room, missed, misses, room-kept, within, within-kept}
+use Rattle.split.proofs.Choose.{splits-legal}
+use Rattle.split.proofs.Closed.{Can-line, Root, set-lined}
 use Rattle.split.proofs.Lines.{lines-half}
 use Rattle.split.proofs.Order.{coefficients-members, ordered-length}
-use Rattle.split.proofs.Reach.{lines-depend, turn-bits}
+use Rattle.split.proofs.Reach.{Legal, lines-depend, turn-bits}
 use Rattle.split.proofs.Sets.{cons-member, member-head}
-use Rattle.split.proofs.Splits.{pow-even}
+use Rattle.plan.proofs.Agrees.{legals, same-count, same-set}
 use Rattle.plan.proofs.Bytes.{bytes-length, map-length}
+use Rattle.plan.proofs.Rooms.{in-table}
 use Rattle.plan.proofs.Walks.{splits-of}
 
--- an answer and two rooms at exit that are as planned
-abbrev pub AsPlanned : ℕ → List ℕ → List ℕ → Planned → List ℕ → List ℕ → Type 0
-AsPlanned c w r answer w′ r′ = (answer ≡ planned c w r .answer) × (w′ ≡ planned c w r .work) × (r′ ≡ planned c w r .recipe)
+-- ---- the tests
 
-pub planned-by : (c : ℕ) (w r : List ℕ) (a : Planned) → plan-answer split-of c (length w) (length r) ≡ a → planned c w r ≡ plan-by split-of a c w r
-unfolding planned plan-outcome
-planned-by c w r a e = ap (λ (x : Planned). plan-by split-of x c w r) e
+-- the planning that a verdict of the tests gives
+pub by-verdict : (c : ℕ) (w r : List ℕ) (v : Verdict) → first-broken (plan-tests c (length w) (length r)) ≡ v
+    → planned c w r ≡ plan-by split-of (answer-by Refused (Lines (length (recipe-for split-of (odd-part c)))) v) c w r
+unfolding planned plan-outcome plan-answer
+by-verdict c w r v e =
+    ap (λ (u : Verdict). plan-by split-of (answer-by Refused (Lines (length (recipe-for split-of (odd-part c)))) u) c w r) e
 
--- ---- the refusals
+-- no test refuses a constant in range with rooms that are long enough, and each other is refused
+pub record Passed (c work recipe : ℕ) : Type 0 where
+  pub some : 0 < c
+  pub small : c ≤ most-constant
+  pub long : 2 ^ (odd-bits c - 1) ≤ work
+  pub room : line-bytes * (odd-bits c / 2) ≤ recipe
 
-refused : (c : ℕ) (w r : List ℕ) (x : Refusal) → plan-answer split-of c (length w) (length r) ≡ Refused x → AsPlanned c w r (Refused x) w r
-refused c w r x e =
-    let p = planned-by c w r (Refused x) e in
-    (sym (ap (λ (o : Outcome). o .answer) p), sym (ap (λ (o : Outcome). o .work) p), sym (ap (λ (o : Outcome). o .recipe) p))
+pub kept-passed : (c work recipe : ℕ) → first-broken (plan-tests c work recipe) ≡ Kept → Passed c work recipe
+kept-passed c work recipe e =
+    let k = kept-all (plan-tests c work recipe) e in
+    let n = within most-constant c (missed _ _ (k .0)) in
+    record { some = n .0; small = n .1; long = kept-room _ _ _ (k .1 .0); room = kept-room _ _ _ (k .1 .1 .0) }
 
-module _ (c : ℕ) (w r : List ℕ) where
-  pub refused-none : c ≡ 0 → AsPlanned c w r (Refused Constant) w r
-  unfolding plan-answer
-  refused-none e = refused c w r Constant (rw (eq-eqb c 0 e, plan-answer))
+pub passed-kept : (c work recipe : ℕ) → Passed c work recipe → first-broken (plan-tests c work recipe) ≡ Kept
+passed-kept c work recipe h =
+    all-kept (plan-tests c work recipe)
+    (misses _ _ (within-kept most-constant c (h .some) (h .small)), (room-kept _ _ _ (h .long), (room-kept _ _ _ (h .room), tt)))
 
-  pub refused-large : (c ≡ 0 → ⊥) → 65535 < c → AsPlanned c w r (Refused Constant) w r
-  unfolding plan-answer
-  refused-large n h = refused c w r Constant (rw (ne-eqb c 0 n, lt-ltb 65535 c h, plan-answer))
-
-  pub refused-work : (c ≡ 0 → ⊥) → c ≤ 65535 → length w < 2 ^ (odd-bits c - 1) → AsPlanned c w r (Refused WorkRoom) w r
-  unfolding plan-answer
-  refused-work n h k = refused c w r WorkRoom (rw (ne-eqb c 0 n, le-ltb 65535 c h, lt-ltb (length w) (2 ^ (odd-bits c - 1)) k, plan-answer))
-
-  -- with a work room that is long enough, the recipe room decides
-  third : (c ≡ 0 → ⊥) → c ≤ 65535 → 2 ^ (odd-bits c - 1) ≤ length w
-      → plan-answer split-of c (length w) (length r) ≡ cond (ltb (length r) (5 * (odd-bits c / 2))) (Refused RecipeRoom) (Lines (length (recipe-for split-of (odd-part c))))
-  unfolding plan-answer
-  third n h k = rw (ne-eqb c 0 n, le-ltb 65535 c h, le-ltb (length w) (2 ^ (odd-bits c - 1)) k, plan-answer)
-
-  pub refused-recipe : (c ≡ 0 → ⊥) → c ≤ 65535 → 2 ^ (odd-bits c - 1) ≤ length w → length r < 5 * (odd-bits c / 2) → AsPlanned c w r (Refused RecipeRoom) w r
-  refused-recipe n h k l = refused c w r RecipeRoom (third n h k ∙ rw (lt-ltb (length r) (5 * (odd-bits c / 2)) l))
-
-  pub success : (c ≡ 0 → ⊥) → c ≤ 65535 → 2 ^ (odd-bits c - 1) ≤ length w → 5 * (odd-bits c / 2) ≤ length r
-      → plan-answer split-of c (length w) (length r) ≡ Lines (length (recipe-for split-of (odd-part c)))
-  success n h k l = third n h k ∙ rw (le-ltb (length r) (5 * (odd-bits c / 2)) l)
-
--- ---- once nothing is refused
-
--- c, its odd part d of m bits, and rooms that are long enough
-pub record Passed (c d m : ℕ) (w r : List ℕ) : Type 0 where
-  pub some : c ≡ 0 → ⊥
-  pub small : c ≤ 65535
-  pub part : d ≡ odd-part c
-  pub bits : m ≡ bit-length d
-  pub long : 2 ^ (m - 1) ≤ length w
-  pub room : 5 * (m / 2) ≤ length r
-
-splits-length : (t : ℕ → ℕ) (L : ℕ) → length (splits t L) ≡ 2 ^ (L - 1)
-unfolding splits splits-from
-splits-length t L = from 0 (2 ^ (L - 1))
-  where
-    from : (i k : ℕ) → length (splits-from t i k) ≡ k
-    from i zero = refl
-    from i (suc k) = ap suc (from (suc i) k)
+-- ---- once no test refuses, over any lookup
 
 lines-cong : (t u : ℕ → ℕ) (ks xs : List ℕ) → ((x : ℕ) → member x xs ≡ true → t x ≡ u x) → map (line-for t ks) xs ≡ map (line-for u ks) xs
 unfolding line-for
@@ -105,70 +76,119 @@ pub recipe-length : (t : ℕ → ℕ) (d : ℕ) → length (recipe-for t d) ≡ 
 unfolding recipe-for coefficients line-count
 recipe-length t d = map-length (line-for t (ordered (set-of t d))) (ordered (set-of t d)) ∙ ordered-length (set-of t d)
 
-module _ {c d m : ℕ} {w r : List ℕ} (h : Passed c d m w r) where
+-- c, its odd part d of m bits
+pub record Parts (c d m : ℕ) : Type 0 where
+  pub some : 0 < c
+  pub small : c ≤ most-constant
+  pub part : d ≡ odd-part c
+  pub bits : m ≡ bit-length d
+
+module _ {c d m : ℕ} (h : Parts c d m) where
   odd : d % 2 ≡ 1
-  odd = ap (λ (x : ℕ). x % 2) (h .part) ∙ odd-part-odd c (omega (arith, h .some))
+  odd = ap (λ (x : ℕ). x % 2) (h .part) ∙ odd-part-odd c (h .some)
 
-  few : bit-length d ≤ 16
-  few = bits-le 16 d (omega (arith, h .part, odd-part-le c, h .small))
+  few : bit-length d ≤ most-bits
+  few = bits-le most-bits d (omega (arith, h .part, odd-part-le c, h .small))
 
-  pub fill-asks : (0 < m) × (m < 17) × (2 ^ (m - 1) ≤ length w)
-  fill-asks = (omega (arith, h .bits, bits-pos d (omega (arith, odd))), omega (arith, h .bits, few), h .long)
+  pub bits-are : m ≡ odd-bits c
+  bits-are = h .bits ∙ ap bit-length (h .part)
 
-  module _ {w′ : List ℕ} (f : Table w m w′) where
-    known : (x : ℕ) → x % 2 ≡ 1 → bit-length x ≤ bit-length d → look w′ x ≡ split-of x
-    known x o b = f .known x o (omega (arith, h .bits))
+  pub few-bits : (0 < m) × (m ≤ most-bits)
+  few-bits = (omega (arith, h .bits, bits-pos d (omega (arith, odd))), omega (arith, h .bits, few))
+
+  pub long-enough : {k : ℕ} → 2 ^ (odd-bits c - 1) ≤ k → 2 ^ (m - 1) ≤ k
+  long-enough long = omega (arith, ap (λ (x : ℕ). 2 ^ (x - 1)) bits-are)
+
+  -- a work room that holds the splits of a lookup t, legal ones, and a set's room that has places for all of d's coefficients
+  module _ {t : ℕ → ℕ} (ok : Legal t (suc (turn d))) (place : line-count t d ≤ set-room)
+      {w w′ : List ℕ} (f : Holds-splits t w m w′) (long : 2 ^ (m - 1) ≤ length w) where
+    agrees : (x : ℕ) → x % 2 ≡ 1 → turn x < suc (turn d) → look w′ x ≡ t x
+    agrees x o less = f .known x o (omega (arith, h .bits, turn-bits x d (omega arith)))
 
     longer : 2 ^ (bit-length d - 1) ≤ length w′
-    longer = omega (arith, h .long, f .same, ap (λ (x : ℕ). 2 ^ (x - 1)) (h .bits))
+    longer = omega (arith, long, f .same, ap (λ (x : ℕ). 2 ^ (x - 1)) (h .bits))
+
+    legal-to : Legal (look w′) (suc (turn d))
+    legal-to = legals t (suc (turn d)) ok w′ agrees
+
+    fits : bit-length d < 64
+    fits = omega (arith, few)
 
     pub whole : Whole w′ d
-    whole = record { odd = odd; few = omega (arith, few); long = longer; known = known }
+    whole = record {
+      odd = odd;
+      few = omega (arith, few);
+      long = longer;
+      legals = legal-to;
+      room = omega (arith, place, same-count t (suc (turn d)) ok w′ agrees d odd fits (le-refl (suc (turn d))));
+    }
 
-    module _ {s : Set} (g : Coefficients d s) where
-      of-set : (x : ℕ) → member x (items s) ≡ true → (1 < x) × (x % 2 ≡ 1) × (bit-length x ≤ bit-length d)
+    module _ {s : Set} (k : Coefficients (look w′) d s) where
+      holds : items s ≡ coefficients t d
+      unfolding coefficients
+      holds = k .holds ∙ ap ordered (same-set t (suc (turn d)) ok w′ agrees d odd fits (le-refl (suc (turn d))))
+
+      of-set : (x : ℕ) → member x (items s) ≡ true → Can-line t (bit-length d) (set-of t d) x
       of-set x m′ =
-          let k = set-closed split-of d (splits-legal lines lines-depend d (omega (arith, few))) odd (omega (arith, few)) .member x
-          (sym (coefficients-members split-of d x) ∙ sym (ap (member x) (g .holds)) ∙ m′) in
-          (k .0, k .1, turn-bits x d (k .2))
+          let root : Root t (bit-length d) d = record { odd = odd; few = le-refl (bit-length d); legals = ok } in
+          set-lined t (bit-length d) fits d root x (sym (coefficients-members t d x) ∙ sym (ap (member x) holds) ∙ m′)
 
-      len-is : s .len ≡ length (recipe-for split-of d)
+      len-is : s .len ≡ length (recipe-for t d)
       unfolding recipe-for
-      len-is = sym (length-take-le (s .len) (s .room) (omega (arith, g .sized))) ∙ ap (λ (z : List ℕ). length z) (g .holds)
-          ∙ sym (map-length (line-for split-of (coefficients split-of d)) (coefficients split-of d))
+      len-is = sym (length-take-le (s .len) (s .room) (omega (arith, k .sized))) ∙ ap (λ (z : List ℕ). length z) holds
+          ∙ sym (map-length (line-for t (coefficients t d)) (coefficients t d))
 
-      written : (x : ℕ) → member x (items s) ≡ true → Written w′ s x
-      written x m′ =
-          let k = of-set x m′ in
-          let few-x : bit-length x < 32 = omega (arith, few) in
+      same-split : (x : ℕ) → member x (items s) ≡ true → look w′ x ≡ t x
+      same-split x m′ = let q = of-set x m′ in f .known x (q .odd) (omega (arith, h .bits, q .few))
+
+      writes-line : (x : ℕ) → member x (items s) ≡ true → Writes-line w′ s x
+      writes-line x m′ =
+          let q = of-set x m′ in
           record {
-            sized = g .sized;
-            splits = splits-of (look w′ x) x (k .0) (k .1) few-x
-                (ap (λ (z : ℕ). legal z x) (known x (k .1) (k .2)) ∙ split-chosen lines lines-depend x (k .0) (k .1) few-x .is-legal);
-            inside = omega (arith, longer, bits-lt x, pow-even (bit-length x) (bits-pos x (omega arith)), pow-mono {i = bit-length x - 1} {j = bit-length d - 1} (omega arith));
+            sized = k .sized;
+            splits = splits-of (look w′ x) x (q .big) (q .odd) (omega (arith, few, q .few))
+                (subst (λ (c : ℕ). legal c x ≡ true) (sym (same-split x m′)) (q .is-legal));
+            inside = in-table w′ x d (omega (arith, q .big)) (q .few) longer;
           }
 
-      pub lines-ask : Sized s × (5 * s .len ≤ length r) × ((x : ℕ) → member x (items s) ≡ true → Written w′ s x)
-      lines-ask = (g .sized, omega (arith, len-is, recipe-length split-of d, lines-half d odd (omega (arith, few)), h .bits, h .room), written)
+      module _ (r : List ℕ) (room : line-bytes * line-count t d ≤ length r) where
+        pub lines-ask : Sized s × (line-bytes * s .len ≤ length r) × ((x : ℕ) → member x (items s) ≡ true → Writes-line w′ s x)
+        lines-ask = (k .sized, omega (arith, len-is, recipe-length t d, room), writes-line)
 
-      lines-are-planned : lines-bytes (map (line-for (look w′) (items s)) (items s)) ≡ lines-bytes (recipe-for split-of d)
-      unfolding recipe-for
-      lines-are-planned = ap lines-bytes (lines-cong (look w′) split-of (items s) (items s) (λ x m′. let k = of-set x m′ in known x (k .1) (k .2)))
-          ∙ ap (λ (z : List ℕ). lines-bytes (map (line-for split-of z) z)) (g .holds)
+        lines-are : lines-bytes (map (line-for (look w′) (items s)) (items s)) ≡ lines-bytes (recipe-for t d)
+        unfolding recipe-for
+        lines-are =
+            ap lines-bytes (lines-cong (look w′) t (items s) (items s)
+            same-split)
+            ∙ ap (λ (z : List ℕ). lines-bytes (map (line-for t z) z)) holds
 
-      pub done : {r′ : List ℕ} → r′ ≡ lines-bytes (map (line-for (look w′) (items s)) (items s)) ++ drop (5 * s .len) r → AsPlanned c w r (Lines (s .len)) w′ r′
-      done e =
-          let o : ℕ = odd-part c in
-          let bits-are : m ≡ odd-bits c = h .bits ∙ ap bit-length (h .part) in
-          let p = planned-by c w r (Lines (length (recipe-for split-of o)))
-          (success c w r (h .some) (h .small) (omega (arith, h .long, ap (λ (x : ℕ). 2 ^ (x - 1)) bits-are)) (omega (arith, h .room, bits-are))) in
-          let n : s .len ≡ length (recipe-for split-of o) = len-is ∙ ap (λ (x : ℕ). length (recipe-for split-of x)) (h .part) in
-          let B : List ℕ = lines-bytes (recipe-for split-of o) in (
-            ap Lines n ∙ sym (ap (λ (z : Outcome). z .answer) p),
-            f .holds ∙ ap (λ (x : ℕ). splits split-of x ++ drop (2 ^ (x - 1)) w) bits-are
-                ∙ ap (λ (x : ℕ). splits split-of (odd-bits c) ++ drop x w) (sym (splits-length split-of (odd-bits c)))
-                ∙ sym (ap (λ (z : Outcome). z .work) p),
-            e ∙ ap₂ (λ (x : List ℕ) (k : ℕ). x ++ drop k r) (lines-are-planned ∙ ap (λ (x : ℕ). lines-bytes (recipe-for split-of x)) (h .part))
-                (ap (λ (x : ℕ). 5 * x) n ∙ sym (bytes-length (recipe-for split-of o)))
-                ∙ sym (ap (λ (z : Outcome). z .recipe) p),
-          )
+        -- the answer and both rooms
+        pub planned-rooms : {r′ : List ℕ} → r′ ≡ sets r 0 (lines-bytes (map (line-for (look w′) (items s)) (items s)))
+            → planning (Lines (s .len)) w′ r′ ≡ plan-by t (Lines (length (recipe-for t (odd-part c)))) c w r
+        planned-rooms {r′} e =
+            let n = len-is ∙ ap (λ (x : ℕ). length (recipe-for t x)) (h .part) in
+            let filled = f .holds ∙ ap (λ (x : ℕ). sets w 0 (splits t x)) bits-are in
+            let lined = e ∙ ap (sets r 0) lines-are ∙ ap (λ (x : ℕ). sets r 0 (lines-bytes (recipe-for t x))) (h .part) in
+            λ i. planning (Lines (n i)) (filled i) (lined i)
+
+-- ---- the line goal
+
+module _ {c d m : ℕ} (h : Parts c d m) where
+  pub lines-legal : Legal split-of (suc (turn d))
+  lines-legal = splits-legal lines lines-depend d (omega (arith, few h))
+
+  pub lines-place : line-count split-of d ≤ set-room
+  lines-place = omega (arith, lines-half d (odd h) (omega (arith, few h)), few h)
+
+  pub lines-room : {k : ℕ} → line-bytes * (odd-bits c / 2) ≤ k → line-bytes * line-count split-of d ≤ k
+  lines-room room = omega (arith, lines-half d (odd h) (omega (arith, few h)), h .bits, bits-are h)
+
+-- the recipe room's first bytes
+pub recipe-in-room : (c : ℕ) (w r : List ℕ) → Passed c (length w) (length r)
+    → take (line-bytes * length (recipe-for split-of (odd-part c))) (planned c w r .recipe) ≡ lines-bytes (recipe-for split-of (odd-part c))
+recipe-in-room c w r h =
+    let ls = recipe-for split-of (odd-part c) in
+    let parts : Parts c (odd-part c) (odd-bits c) = record { some = h .some; small = h .small; part = refl; bits = refl } in
+    ap (λ (o : Planning). take (line-bytes * length ls) (o .recipe)) (by-verdict c w r Kept (passed-kept c (length w) (length r) h))
+    ∙ take-sets r (lines-bytes ls) (line-bytes * length ls) (bytes-length ls)
+    (omega (arith, recipe-length split-of (odd-part c), lines-room parts (h .room)))

@@ -28,9 +28,11 @@ module _ (Used : ℕ → Type 0) where
   pub record Adds (xs ys : List Bit) (c : Bit) (n : ℕ) (r : Sum) : Type 0 where
     pub extends : Extends Used n (r .next) (r .clauses)
     pub below : Bits-below Used (r .next) (r .bits)
-    pub adds : (α : Assignment) → satisfies α (r .clauses) ≡ true → (j : ℕ) × (reads α xs + reads α ys + bit-number α c ≡ reads α (r .bits) + 2 ^ length xs * j)
+    pub adds : (α : Assignment) → satisfies α (r .clauses) ≡ true → (j : ℕ)
+        × (reads α xs + reads α ys + bit-number α c ≡ reads α (r .bits) + 2 ^ length xs * j)
 
-  pub adder-adds : (xs ys : List Bit) (c : Bit) (n : ℕ) → length xs ≡ length ys → Fresh Used n → Bits-below Used n xs → Bits-below Used n ys → Bit-below Used n c
+  pub adder-adds : (xs ys : List Bit) (c : Bit) (n : ℕ) → length xs ≡ length ys → Fresh Used n → Bits-below Used n xs → Bits-below Used n ys
+      → Bit-below Used n c
       → Adds xs ys c n (adder xs ys c n)
   unfolding adder
   adder-adds [] [] c n e fresh ix iy ic = record { extends = extends-nil Used n; below = tt; adds = λ α h. (bit-number α c, omega arith) }
@@ -60,7 +62,8 @@ module _ (Used : ℕ → Type 0) where
             let u = f .adds α (satisfies-left α (k .clauses) (g .clauses) h) in
             let v = r .adds α (satisfies-right α (k .clauses) (g .clauses) h) in (
               v .0,
-              step (bit-number α x) (reads α (x′ ∷ xs)) (bit-number α y) (reads α (y′ ∷ ys)) (bit-number α c) (bit-number α (k .sum-bit)) (reads α (g .bits)) (u .0) (bit-number α (k .carry-bit)) (2 ^ length (x′ ∷ xs) * v .0)
+              step (bit-number α x) (reads α (x′ ∷ xs)) (bit-number α y) (reads α (y′ ∷ ys)) (bit-number α c) (bit-number α (k .sum-bit))
+                  (reads α (g .bits)) (u .0) (bit-number α (k .carry-bit)) (2 ^ length (x′ ∷ xs) * v .0)
                   (2 ^ length (x ∷ x′ ∷ xs) * v .0) (u .1) (u .2 refl) (v .1) (twice (length (x′ ∷ xs)) (v .0)),
             );
       }

@@ -9,7 +9,8 @@ use lib.Dec.{eqb}
 use borrow.Author.Tests.{eq-eqb, eqb-true}
 use Rattle.cnf.specs.Clause.{Literal}
 use Rattle.product.specs.Bit.{Bit, fixed, unfixed}
-use Rattle.product.specs.Column.{Pair, none, pair-by, pair-or, first-pair, Made, sum, sum-of, carry-of, carry-unless, Column, column-of, column}
+use Rattle.product.specs.Column.{Pair, none, pair-by, pair-or, first-pair, Made, sum-made, sum-of, carry-of, carry-unless, Column}
+use Rattle.product.specs.Column.{column-of, column}
 
 -- the two pairs leave the same sum and the same carry
 abbrev pub Alike : List Bit → Pair → Pair → Type 0
@@ -45,7 +46,7 @@ Taken-alike p q r =
     × Alike (unfixed p ∷ unfixed q ∷ unfixed r ∷ []) (taken q r p j) (taken p q r k)
 
 one-variable : (v : ℕ) (a b c : Bool) → Taken-alike (literal v a) (literal v b) (literal v c)
-unfolding sum sum-of carry-of
+unfolding sum-made sum-of carry-of
 one-variable v true true true j k = (λ n. (refl, refl), λ n. (refl, refl))
 one-variable v true true false j k = (λ n. (refl, refl), λ n. (refl, refl))
 one-variable v true false true j k = (λ n. (refl, refl), λ n. (refl, refl))

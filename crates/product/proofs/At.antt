@@ -53,7 +53,8 @@ rest-step xs ys i c n k hx hy e = (ap (λ (s : Sum). s .bits) all, ap (λ (s : S
     all : adder (drop i xs) (drop i ys) c n ≡ made k
     all = ap₂ (λ (u v : List Bit). adder u v c n) (drop-cons xs i (fixed false) hx) (drop-cons ys i (fixed false) hy) ∙ ap made e
 
-pub rest-end : (xs ys : List Bit) (i : ℕ) (c : Bit) (n : ℕ) → length xs ≤ i → rest xs ys i c n ≡ record { bits = []; clauses = []; next = n }
+pub rest-end : (xs ys : List Bit) (i : ℕ) (c : Bit) (n : ℕ) → length xs ≤ i
+    → rest xs ys i c n ≡ record { bits = []; clauses = []; next = n }
 unfolding rest adder
 rest-end xs ys i c n h = ap (λ (u : List Bit). adder u (drop i ys) c n) (drop-of-length-le xs h)
 

@@ -1,7 +1,8 @@
 -- How many columns a line has: enough for its coefficient times x, at most L + w, and as many as y has bits.
 use Prim.Native.Nat.{ℕ, zero, suc, _+_, _*_, _-_, _^_, _≤_, _<_}
 use mathlib.Core.Path.{_≡_, sym, ap, _∙_, subst}
-use native.Mathlib.Nat.{not-suc-le-zero, pow-suc, mul-comm, mul-assoc, zero-mul, mul-le-mul, mul-le-mul-left, lt-of-le-of-lt, mul-lt-mul-of-pos-right}
+use native.Mathlib.Nat.{not-suc-le-zero, pow-suc, mul-comm, mul-assoc, zero-mul, mul-le-mul, mul-le-mul-left, lt-of-le-of-lt}
+use native.Mathlib.Nat.{mul-lt-mul-of-pos-right}
 use native.Mathlib.Omega.{arith}
 use lib.Pow.{pow-pos, pow-add}
 use Rattle.line.specs.Number.{bit-length}

@@ -1,5 +1,5 @@
--- At most fourteen clauses and 64 words in a column, so at most 14 * (L + w) clauses and 64 * (L + w) words in a line whose coefficient has at
--- most L bits. From the column up this is one law, over whatever is counted of clauses.
+-- At most fourteen clauses and 64 words in a column, so at most 14 * (L + w) clauses and 64 * (L + w) words in a line whose coefficient has
+-- at most L bits. From the column up this is one law, over whatever is counted of clauses.
 use Prim.Native.Nat.{ℕ, zero, suc, _+_, _*_, _/_, _^_, _≤_, _<_}
 use mathlib.Core.Path.{_≡_, refl, ap, _∙_, subst}
 use mathlib.Core.Bool.{Bool, true, false}
@@ -17,9 +17,10 @@ use Rattle.cnf.specs.Clause.{Literal, Clause}
 use Rattle.cnf.specs.Words.{words}
 use Rattle.cnf.proofs.Words.{words-append}
 use Rattle.product.specs.Bit.{Bit, fixed, unfixed, given}
-use Rattle.product.specs.Column.{fixed-sum, literals, Pair, none, equal, opposite, first-pair, Made, parity, sum, both, either, most, carry, sum-of, carry-of, carry-unless, column}
+use Rattle.product.specs.Column.{fixed-sum, literals, Pair, none, equal, opposite, first-pair, Made, parity, sum-made, both, either}
+use Rattle.product.specs.Column.{most, carry-made, sum-of, carry-of, carry-unless, column}
 use Rattle.product.specs.Lines.{none-left, adder, fitted, line-sum, columns, line-encoded, encoded}
-use Rattle.product.specs.Product.{lines-from, lines-of, product, product-of, clause-words}
+use Rattle.product.specs.Product.{lines-from, lines-of, product-made, product-of, clause-words}
 use Rattle.product.proofs.BitLengths.{columns-le}
 use Rattle.product.proofs.Lengths.{length-fitted, length-lines}
 use Rattle.product.proofs.Given.{length-given}
@@ -34,16 +35,18 @@ inputs-few (unfixed l ∷ bs) = omega (arith, inputs-few bs)
 
 -- ---- a column
 
-sum-clauses : (f n : ℕ) (ps : List Literal) → length ps ≤ 3 → (length (sum f ps n .clauses) ≤ 8) × (length (words (sum f ps n .clauses)) ≤ 40)
-unfolding sum parity
+sum-clauses : (f n : ℕ) (ps : List Literal) → length ps ≤ 3 → (length (sum-made f ps n .clauses) ≤ 8)
+    × (length (words (sum-made f ps n .clauses)) ≤ 40)
+unfolding sum-made parity
 sum-clauses f n [] h = omega arith
 sum-clauses f n (p ∷ []) h = omega arith
 sum-clauses f n (p ∷ q ∷ []) h = omega arith
 sum-clauses f n (p ∷ q ∷ r ∷ []) h = omega arith
 sum-clauses f n (p ∷ q ∷ r ∷ s ∷ ps) h = absurd (omega arith)
 
-carry-clauses : (f n : ℕ) (ps : List Literal) → (length (carry f ps n .clauses) ≤ 6) × (length (words (carry f ps n .clauses)) ≤ 24)
-unfolding carry both either most
+carry-clauses : (f n : ℕ) (ps : List Literal) → (length (carry-made f ps n .clauses) ≤ 6)
+    × (length (words (carry-made f ps n .clauses)) ≤ 24)
+unfolding carry-made both either most
 carry-clauses f n [] = omega arith
 carry-clauses zero n (p ∷ []) = omega arith
 carry-clauses (suc zero) n (p ∷ []) = omega arith
@@ -72,7 +75,8 @@ carry-unless-clauses false (opposite r) bs n = omega arith
 words-of-both : (cs ds : List Clause) → length (words (cs ++ ds)) ≡ length (words cs) + length (words ds)
 words-of-both cs ds = ap length (words-append cs ds) ∙ length-append (words cs) (words ds)
 
-column-clauses : (l r c : Bit) (last : Bool) (n : ℕ) → (length (column l r c last n .clauses) ≤ 14) × (length (words (column l r c last n .clauses)) ≤ 64)
+column-clauses : (l r c : Bit) (last : Bool) (n : ℕ) → (length (column l r c last n .clauses) ≤ 14)
+    × (length (words (column l r c last n .clauses)) ≤ 64)
 unfolding column
 column-clauses l r c last n =
     let inputs : List Bit = l ∷ r ∷ c ∷ [] in
@@ -90,10 +94,12 @@ abbrev Small : ℕ → List Line → Type 0
 Small L [] = Unit {0}
 Small L (l ∷ ls) = (l .coefficient < 2 ^ L) × Small L ls
 
-small-from : (recipe : List ℕ) (L n i : ℕ) → ((j : ℕ) → j < i + n → bit-length (line-at recipe j .coefficient) ≤ L) → Small L (lines-from recipe i n)
+small-from : (recipe : List ℕ) (L n i : ℕ) → ((j : ℕ) → j < i + n → bit-length (line-at recipe j .coefficient) ≤ L)
+    → Small L (lines-from recipe i n)
 unfolding lines-from
 small-from recipe L zero i h = tt
-small-from recipe L (suc n) i h = (lt-bits L (line-at recipe i .coefficient) (h i (omega arith)), small-from recipe L n (suc i) (λ j k. h j (omega arith)))
+small-from recipe L (suc n) i h =
+    (lt-bits L (line-at recipe i .coefficient) (h i (omega arith)), small-from recipe L n (suc i) (λ j k. h j (omega arith)))
 
 module _ (size : List Clause → ℕ) (most : ℕ) (none : size [] ≡ 0) (append : (cs ds : List Clause) → size (cs ++ ds) ≡ size cs + size ds)
     (column-size : (l r c : Bit) (last : Bool) (n : ℕ) → size (column l r c last n .clauses) ≤ most) where
@@ -104,10 +110,17 @@ module _ (size : List Clause → ℕ) (most : ℕ) (none : size [] ≡ 0) (appen
   adder-size (l ∷ ls) (r ∷ rs) c n =
       let k = column l r c (none-left ls) n in
       let s = adder ls rs (k .carry-bit) (k .next) in
-      omega (arith, append (k .clauses) (s .clauses), column-size l r c (none-left ls) n, adder-size ls rs (k .carry-bit) (k .next), mul-suc most (length ls))
+      omega (
+        arith,
+        append (k .clauses) (s .clauses),
+        column-size l r c (none-left ls) n,
+        adder-size ls rs (k .carry-bit) (k .next),
+        mul-suc most (length ls),
+      )
 
   fitted-size : (m : ℕ) (ls rs : List Bit) (c : Bit) (n : ℕ) → size (adder (fitted m ls) rs c n .clauses) ≤ most * m
-  fitted-size m ls rs c n = subst (λ (k : ℕ). size (adder (fitted m ls) rs c n .clauses) ≤ most * k) (length-fitted m ls) (adder-size (fitted m ls) rs c n)
+  fitted-size m ls rs c n =
+      subst (λ (k : ℕ). size (adder (fitted m ls) rs c n .clauses) ≤ most * k) (length-fitted m ls) (adder-size (fitted m ls) rs c n)
 
   line-size : (d : Kind) (m s : ℕ) (l r : List Bit) (n : ℕ) → size (line-sum d m l s r n .clauses) ≤ most * m
   unfolding line-sum
@@ -115,7 +128,8 @@ module _ (size : List Clause → ℕ) (most : ℕ) (none : size [] ≡ 0) (appen
   line-size sminus m s l r n = fitted-size m _ _ _ n
   line-size minuss m s l r n = fitted-size m _ _ _ n
 
-  recipe-size : (w L : ℕ) (ls : List Line) (operands : List (List Bit)) (n : ℕ) → Small L ls → size (encoded (columns w) ls operands n .clauses) ≤ most * (L + w) * length ls
+  recipe-size : (w L : ℕ) (ls : List Line) (operands : List (List Bit)) (n : ℕ) → Small L ls
+      → size (encoded (columns w) ls operands n .clauses) ≤ most * (L + w) * length ls
   unfolding encoded line-encoded
   recipe-size w L [] operands n h = omega (arith, none)
   recipe-size w L (l ∷ ls) operands n h =
@@ -131,9 +145,10 @@ module _ (size : List Clause → ℕ) (most : ℕ) (none : size [] ≡ 0) (appen
       )
 
   -- the call
-  product-size : (c : ℕ) (x : List ℤ) (first : ℕ) (recipe : List ℕ) (L : ℕ) → ((i : ℕ) → i < length recipe / 5 → bit-length (line-at recipe i .coefficient) ≤ L)
+  product-size : (c : ℕ) (x : List ℤ) (first : ℕ) (recipe : List ℕ) (L : ℕ)
+      → ((i : ℕ) → i < length recipe / 5 → bit-length (line-at recipe i .coefficient) ≤ L)
       → size (product-of c x first recipe .clauses) ≤ most * (L + length x) * (length recipe / 5)
-  unfolding product-of product
+  unfolding product-of product-made
   product-size c x first recipe L h =
       let n = length recipe / 5 in
       let small : Small L (lines-of recipe) = small-from recipe L n 0 (λ j k. h j (omega arith)) in
@@ -145,11 +160,13 @@ module _ (size : List Clause → ℕ) (most : ℕ) (none : size [] ≡ 0) (appen
       )
 
 -- the clause bound of demand 3
-pub few-clauses : (c : ℕ) (x : List ℤ) (first : ℕ) (recipe : List ℕ) (L : ℕ) → ((i : ℕ) → i < length recipe / 5 → bit-length (line-at recipe i .coefficient) ≤ L)
+pub few-clauses : (c : ℕ) (x : List ℤ) (first : ℕ) (recipe : List ℕ) (L : ℕ)
+    → ((i : ℕ) → i < length recipe / 5 → bit-length (line-at recipe i .coefficient) ≤ L)
     → length (product-of c x first recipe .clauses) ≤ 14 * (L + length x) * (length recipe / 5)
 few-clauses = product-size length 14 refl length-append (λ l r c last n. column-clauses l r c last n .0)
 
-pub few-words : (c : ℕ) (x : List ℤ) (first : ℕ) (recipe : List ℕ) (L : ℕ) → ((i : ℕ) → i < length recipe / 5 → bit-length (line-at recipe i .coefficient) ≤ L)
+pub few-words : (c : ℕ) (x : List ℤ) (first : ℕ) (recipe : List ℕ) (L : ℕ)
+    → ((i : ℕ) → i < length recipe / 5 → bit-length (line-at recipe i .coefficient) ≤ L)
     → length (clause-words (product-of c x first recipe)) ≤ 64 * (L + length x) * (length recipe / 5)
 few-words = product-size (λ (cs : List Clause). length (words cs)) 64 refl words-of-both (λ l r c last n. column-clauses l r c last n .1)
 
@@ -158,9 +175,10 @@ narrow-small w L [] h = tt
 narrow-small w L (l ∷ ls) h = (columns-le w (l .coefficient) L (h .0), narrow-small w L ls (h .1))
 
 -- at most two new variables a column
-pub few-next : (c : ℕ) (x : List ℤ) (first : ℕ) (recipe : List ℕ) (L : ℕ) → ((i : ℕ) → i < length recipe / 5 → bit-length (line-at recipe i .coefficient) ≤ L)
+pub few-next : (c : ℕ) (x : List ℤ) (first : ℕ) (recipe : List ℕ) (L : ℕ)
+    → ((i : ℕ) → i < length recipe / 5 → bit-length (line-at recipe i .coefficient) ≤ L)
     → product-of c x first recipe .next ≤ first + 2 * (L + length x) * (length recipe / 5)
-unfolding product-of product
+unfolding product-of product-made
 few-next c x first recipe L h =
     let n = length recipe / 5 in
     let v : ℕ = length (given x) in

@@ -12,14 +12,18 @@ use native.Mathlib.Nat.{le-refl}
 use native.Mathlib.Omega.{arith}
 use lib.ListN.{length}
 use Rattle.cnf.specs.Clause.{Literal, Clause, Assignment, flips, signed, negation, new, value, satisfies, Distinct, All-distinct}
-use Rattle.cnf.proofs.Extend.{Agree, Fresh, Within, Literals, literals-more, Shape, Shapes, Extends, extends-nil, extends-append, step, value-local, satisfies-left, satisfies-right, eq-of-beq}
+use Rattle.cnf.proofs.Extend.{Agree, Fresh, Within, Literals, literals-more, Shape, Shapes, Extends, extends-nil, extends-append, step}
+use Rattle.cnf.proofs.Extend.{value-local, satisfies-left, satisfies-right, eq-of-beq}
 use Rattle.product.specs.Bit.{Bit, fixed, unfixed, flip, bit-value, num}
-use Rattle.product.specs.Column.{fixed-sum, literals, odd, at-least-two, Pair, none, equal, opposite, first-pair, Made, plain, opened, parity, sum, both, either, most, carry, sum-of, carry-of, carry-unless, Column, column}
+use Rattle.product.specs.Column.{fixed-sum, literals, is-odd, at-least-two, Pair, none, equal, opposite, first-pair, Made, plain}
+use Rattle.product.specs.Column.{opened, parity, sum-made, both, either, most, carry-made, sum-of, carry-of, carry-unless, Column}
+use Rattle.product.specs.Column.{column}
 use Rattle.product.specs.Demand.{Bit-below, Bits-below}
 use Rattle.product.proofs.Bounds.{inputs-few}
 use Rattle.product.proofs.Distinct.{parity-distinct, both-distinct, either-distinct, most-distinct}
 use Rattle.product.proofs.PairMeans.{bit-number, Pair-adds, first-pair-adds, Pair-below, first-pair-below, no-pair-distinct}
-use Rattle.product.proofs.ShapeMeans.{up, total, flips-flips, parity-law, both-law, either-law, most-law}
+use Rattle.product.proofs.ShapeMeans.{up, total, parity-law, both-law, either-law, most-law}
+use Rattle.cnf.proofs.Flips.{flips-flips}
 
 -- ---- the inputs as a number
 
@@ -45,38 +49,38 @@ fixed-sum-count α (fixed true ∷ bs) = omega (arith, fixed-sum-count α bs)
 fixed-sum-count α (fixed false ∷ bs) = omega (arith, fixed-sum-count α bs)
 fixed-sum-count α (unfixed l ∷ bs) = omega (arith, fixed-sum-count α bs)
 
-odd-at-least-two : (t : ℕ) → t ≤ 3 → t ≡ num (odd t) + 2 * num (at-least-two t)
+odd-at-least-two : (t : ℕ) → t ≤ 3 → t ≡ num (is-odd t) + 2 * num (at-least-two t)
 odd-at-least-two zero h = refl
 odd-at-least-two (suc zero) h = refl
 odd-at-least-two (suc (suc zero)) h = refl
 odd-at-least-two (suc (suc (suc zero))) h = refl
 odd-at-least-two (suc (suc (suc (suc t)))) h = absurd (omega arith)
 
-two-digits : (t : ℕ) (a b : Bool) → t ≡ num a + 2 * num b → (a ≡ odd t) × (b ≡ at-least-two t)
-two-digits t a b e = subst (λ (k : ℕ). (a ≡ odd k) × (b ≡ at-least-two k)) (sym e) (go a b)
+two-digits : (t : ℕ) (a b : Bool) → t ≡ num a + 2 * num b → (a ≡ is-odd t) × (b ≡ at-least-two t)
+two-digits t a b e = subst (λ (k : ℕ). (a ≡ is-odd k) × (b ≡ at-least-two k)) (sym e) (go a b)
   where
-    go : (a b : Bool) → (a ≡ odd (num a + 2 * num b)) × (b ≡ at-least-two (num a + 2 * num b))
+    go : (a b : Bool) → (a ≡ is-odd (num a + 2 * num b)) × (b ≡ at-least-two (num a + 2 * num b))
     go true true = (refl, refl)
     go true false = (refl, refl)
     go false true = (refl, refl)
     go false false = (refl, refl)
 
 -- the sum of one input is that input
-pub sum-remains : (r : Bit) (n : ℕ) → sum (fixed-sum (r ∷ [])) (literals (r ∷ [])) n ≡ plain r n
-unfolding sum
+pub sum-remains : (r : Bit) (n : ℕ) → sum-made (fixed-sum (r ∷ [])) (literals (r ∷ [])) n ≡ plain r n
+unfolding sum-made
 sum-remains (fixed true) n = refl
 sum-remains (fixed false) n = refl
 sum-remains (unfixed l) n = refl
 
-pub sum-flips : (r : Bit) (n : ℕ) → sum (suc (fixed-sum (r ∷ []))) (literals (r ∷ [])) n ≡ plain (flip r) n
-unfolding sum
+pub sum-flips : (r : Bit) (n : ℕ) → sum-made (suc (fixed-sum (r ∷ []))) (literals (r ∷ [])) n ≡ plain (flip r) n
+unfolding sum-made
 sum-flips (fixed true) n = refl
 sum-flips (fixed false) n = refl
 sum-flips (unfixed l) n = refl
 
-pub halves : (t : ℕ) → (j : ℕ) × (t ≡ num (odd t) + 2 * j)
+pub halves : (t : ℕ) → (j : ℕ) × (t ≡ num (is-odd t) + 2 * j)
 halves zero = (0, refl)
-halves (suc t) = go (odd t) (halves t .0) (halves t .1)
+halves (suc t) = go (is-odd t) (halves t .0) (halves t .1)
   where
     go : (b : Bool) (j : ℕ) → t ≡ num b + 2 * j → (j : ℕ) × (suc t ≡ num (not b) + 2 * j)
     go true j e = (suc j, omega arith)
@@ -91,8 +95,8 @@ pub num-le : (b : Bool) → num b ≤ 1
 num-le true = omega arith
 num-le false = omega arith
 
-pub odd-mod : (x : ℕ) → num (odd x) ≡ x % 2
-odd-mod x = omega (arith, halves x .1, num-le (odd x))
+pub odd-mod : (x : ℕ) → num (is-odd x) ≡ x % 2
+odd-mod x = omega (arith, halves x .1, num-le (is-odd x))
 
 module _ (Used : ℕ → Type 0) where
   pub bit-more : {n m : ℕ} (b : Bit) → n ≤ m → Bit-below Used n b → Bit-below Used m b
@@ -112,7 +116,8 @@ module _ (Used : ℕ → Type 0) where
   shapes-append n [] ds s t = t
   shapes-append n (c ∷ cs) ds s t = (s .0, shapes-append n cs ds (s .1) t)
 
-  shapes-map : (n : ℕ) (l : Literal) (cs : List Clause) → Within Used n l → Shapes Used n cs → Shapes Used n (map (λ (c : Clause). l ∷ c) cs)
+  shapes-map : (n : ℕ) (l : Literal) (cs : List Clause) → Within Used n l → Shapes Used n cs
+      → Shapes Used n (map (λ (c : Clause). l ∷ c) cs)
   shapes-map n l [] i s = tt
   shapes-map n l ([] ∷ cs) i s = absurd (s .0)
   shapes-map n l ((k ∷ c) ∷ cs) i s = ((i, s .0), shapes-map n l cs i (s .1))
@@ -149,25 +154,26 @@ module _ (Used : ℕ → Type 0) where
       → ((α : Assignment) → bit-value α b ≡ v α) → Tied n (plain b n) v
   plain-tied n b v i e = record { extends = extends-nil Used n; value = λ α s. e α; below = i }
 
-  sum-tied : (n f : ℕ) (ps : List Literal) → Used n → Literals Used n ps → Distinct ps → Tied n (sum f ps n) (λ α. odd (total α f ps))
-  unfolding sum
-  sum-tied n f [] u i d = plain-tied n (fixed (odd f)) (λ α. odd f) tt (λ α. refl)
+  sum-tied : (n f : ℕ) (ps : List Literal) → Used n → Literals Used n ps → Distinct ps
+      → Tied n (sum-made f ps n) (λ α. is-odd (total α f ps))
+  unfolding sum-made
+  sum-tied n f [] u i d = plain-tied n (fixed (is-odd f)) (λ α. is-odd f) tt (λ α. refl)
   sum-tied n f (p ∷ []) u i d =
-      plain-tied n (unfixed (signed (odd f) p)) (λ α. odd (up (value α p) f)) (i .0)
-      (λ α. flips-flips (odd f) (p .negated) (α (p .variable)) ∙ go (value α p) (odd f) refl)
+      plain-tied n (unfixed (signed (is-odd f) p)) (λ α. is-odd (up (value α p) f)) (i .0)
+      (λ α. flips-flips (is-odd f) (p .negated) (α (p .variable)) ∙ go (value α p) (is-odd f) refl)
     where
-      go : (b o : Bool) → odd f ≡ o → flips o b ≡ odd (up b f)
+      go : (b o : Bool) → is-odd f ≡ o → flips o b ≡ is-odd (up b f)
       go true true e = ap not (sym e)
       go true false e = ap not (sym e)
       go false true e = sym e
       go false false e = sym e
   sum-tied n f (p ∷ q ∷ ps) u i d =
-      opened-tied n (parity (p ∷ q ∷ ps) (odd f) n) odd f (p ∷ q ∷ ps) u i (parity-shape n (p ∷ q ∷ ps) (odd f) i)
-      (parity-distinct Used n (p ∷ q ∷ ps) (odd f) i d) (λ α. parity-law α f (p ∷ q ∷ ps) n)
+      opened-tied n (parity (p ∷ q ∷ ps) (is-odd f) n) is-odd f (p ∷ q ∷ ps) u i (parity-shape n (p ∷ q ∷ ps) (is-odd f) i)
+      (parity-distinct Used n (p ∷ q ∷ ps) (is-odd f) i d) (λ α. parity-law α f (p ∷ q ∷ ps) n)
 
   carry-tied : (n f : ℕ) (ps : List Literal) → f + length ps ≤ 3 → Used n → Literals Used n ps → Distinct ps
-      → Tied n (carry f ps n) (λ α. at-least-two (total α f ps))
-  unfolding carry both either most
+      → Tied n (carry-made f ps n) (λ α. at-least-two (total α f ps))
+  unfolding carry-made both either most
   carry-tied n f [] h u i d = plain-tied n (fixed (at-least-two f)) (λ α. at-least-two f) tt (λ α. refl)
   carry-tied n zero (p ∷ []) h u i d = plain-tied n (fixed false) (λ α. at-least-two (up (value α p) 0)) tt (λ α. go (value α p))
     where
@@ -218,7 +224,8 @@ module _ (Used : ℕ → Type 0) where
     pub sum-below : Bit-below Used (k .next) (k .sum-bit)
     pub carry-below : Bit-below Used (k .next) (k .carry-bit)
     pub adds : (α : Assignment) → satisfies α (k .clauses) ≡ true
-        → (j : ℕ) × (bit-number α l + bit-number α r + bit-number α c ≡ bit-number α (k .sum-bit) + 2 * j) × (last ≡ false → j ≡ bit-number α (k .carry-bit))
+        → (j : ℕ) × (bit-number α l + bit-number α r + bit-number α c ≡ bit-number α (k .sum-bit) + 2 * j)
+        × (last ≡ false → j ≡ bit-number α (k .carry-bit))
 
   module _ (l r c : Bit) (n : ℕ) (fresh : Fresh Used n) (il : Bit-below Used n l) (ir : Bit-below Used n r) (ic : Bit-below Used n c) where
     abbrev inputs : List Bit
@@ -236,15 +243,15 @@ module _ (Used : ℕ → Type 0) where
 
     -- with a pair neither the sum nor the carry needs a variable
     sum-of-tied : (k : Pair) → first-pair l r c ≡ k → ((α : Assignment) → Pair-adds α (ones α) k) → Pair-below Used n k
-        → Tied n (sum-of k inputs n) (λ α. odd (ones α))
+        → Tied n (sum-of k inputs n) (λ α. is-odd (ones α))
     unfolding sum-of
     sum-of-tied none e h i = sum-tied n (fixed-sum inputs) (literals inputs) (fresh n (le-refl n)) literals-below (no-pair-distinct l r c e)
     sum-of-tied (equal p q) e h i =
-        subst (λ (m : Made). Tied n m (λ α. odd (ones α))) (sym (sum-remains q n))
-        (plain-tied n q (λ α. odd (ones α)) (i .1) (λ α. two-digits (ones α) (bit-value α q) (bit-value α p) (h α) .0))
+        subst (λ (m : Made). Tied n m (λ α. is-odd (ones α))) (sym (sum-remains q n))
+        (plain-tied n q (λ α. is-odd (ones α)) (i .1) (λ α. two-digits (ones α) (bit-value α q) (bit-value α p) (h α) .0))
     sum-of-tied (opposite q) e h i =
-        subst (λ (m : Made). Tied n m (λ α. odd (ones α))) (sym (sum-flips q n))
-        (plain-tied n (flip q) (λ α. odd (ones α)) (flip-below n q i)
+        subst (λ (m : Made). Tied n m (λ α. is-odd (ones α))) (sym (sum-flips q n))
+        (plain-tied n (flip q) (λ α. is-odd (ones α)) (flip-below n q i)
         (λ α. two-digits (ones α) (bit-value α (flip q)) (bit-value α q) (h α) .0))
 
     carry-of-tied : (k : Pair) (m : ℕ) → n ≤ m → first-pair l r c ≡ k → ((α : Assignment) → Pair-adds α (ones α) k) → Pair-below Used n k
@@ -266,7 +273,7 @@ module _ (Used : ℕ → Type 0) where
     abbrev s : Made
     s = sum-of pair inputs n
 
-    sum-right : Tied n s (λ α. odd (ones α))
+    sum-right : Tied n s (λ α. is-odd (ones α))
     sum-right = sum-of-tied pair refl pair-adds (first-pair-below Used n l r c il ir ic)
 
     abbrev t : Made
@@ -286,7 +293,7 @@ module _ (Used : ℕ → Type 0) where
       carry-below = tt;
       adds = λ α h.
           let v = ones α in
-          let e : bit-value α (s .bit) ≡ odd v = sum-right .value α (satisfies-left α (s .clauses) [] h) in
+          let e : bit-value α (s .bit) ≡ is-odd v = sum-right .value α (satisfies-left α (s .clauses) [] h) in
           let k = halves v in
           (k .0, sum-of-inputs α l r c ∙ k .1 ∙ ap (λ (o : Bool). num o + 2 * k .0) (sym e), λ f. absurd (false≢true (sym f)));
     }
@@ -296,7 +303,10 @@ module _ (Used : ℕ → Type 0) where
       carry-below = carry-right .below;
       adds = λ α h.
           let v = ones α in
-          let e : bit-value α (s .bit) ≡ odd v = sum-right .value α (satisfies-left α (s .clauses) (t .clauses) h) in
-          let f : bit-value α (t .bit) ≡ at-least-two v = carry-right .value α (satisfies-right α (s .clauses) (t .clauses) h) in
-          (bit-number α (t .bit), sum-of-inputs α l r c ∙ odd-at-least-two v (few α) ∙ ap₂ (λ (o d : Bool). num o + 2 * num d) (sym e) (sym f), λ f. refl);
+          let e : bit-value α (s .bit) ≡ is-odd v = sum-right .value α (satisfies-left α (s .clauses) (t .clauses) h) in
+          let f : bit-value α (t .bit) ≡ at-least-two v = carry-right .value α (satisfies-right α (s .clauses) (t .clauses) h) in (
+            bit-number α (t .bit),
+            sum-of-inputs α l r c ∙ odd-at-least-two v (few α) ∙ ap₂ (λ (o d : Bool). num o + 2 * num d) (sym e) (sym f),
+            λ f. refl,
+          );
     }

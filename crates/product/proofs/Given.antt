@@ -6,7 +6,7 @@ use mathlib.Core.Bool.{Bool, true, false, not, cond}
 use mathlib.Core.List.{List, [], _∷_}
 use native.Mathlib.Nat.{not-suc-le-zero, add-zero, zero-add, suc-add}
 use native.Mathlib.Omega.{arith}
-use borrow.Author.Tests.{eqb-true, eqb-false, ltb-true, eq-eqb, ne-eqb, lt-ltb}
+use borrow.Author.Tests.{eqb-true, eqb-false, ltb-true, eq-eqb, ne-eqb, lt-ltb, not-false}
 use lib.Dec.{eqb, ltb}
 use lib.IntN.{ℤ, pos, negsuc}
 use lib.ListN.{length, getD, length-map}
@@ -14,19 +14,16 @@ use Rattle.cnf.specs.Clause.{Literal, Assignment, flips, new, value}
 use Rattle.cnf.specs.Words.{From-1, named, names, literal-of-word, Distinct-below}
 use Rattle.cnf.proofs.Words.{names-first, names-later}
 use Rattle.line.specs.declared.Line.{Line}
-use Rattle.recipe.proofs.Accepted.{neither}
+use Rattle.line.proofs.Order.{neither}
 use Rattle.product.specs.Bit.{Bit, unfixed, given, numbered, num, reads}
-use Rattle.product.specs.Product.{Product, product}
+use Rattle.product.specs.Product.{Product, product-made}
 use Rattle.product.specs.Write.{unfit, not-literals}
 use Rattle.product.specs.Demand.{Bits-below, entry-value, entries-read}
 use Rattle.product.specs.Renaming.{Renaming, name, renaming}
 use Rattle.product.proofs.Renamed.{bits-renamed, Renames, Product-renamed, product-renamed, Counts-same, counts-same}
+use Rattle.cnf.proofs.Flips.{flips-self}
 
 -- ---- test 14
-
-pub not-false : (b : Bool) → not b ≡ false → b ≡ true
-not-false true e = refl
-not-false false e = sym e
 
 pub fit-of : (first : ℕ) (x : List ℤ) → unfit first x ≡ false → Distinct-below first x
 fit-of first [] e = tt
@@ -38,7 +35,8 @@ fit-of first (l ∷ ls) e =
 
 pub unfit-of : (first : ℕ) (x : List ℤ) → Distinct-below first x → unfit first x ≡ false
 unfit-of first [] i = refl
-unfit-of first (l ∷ ls) i = rw (ne-eqb (named l) 0 (λ e. omega (arith, i .0)), lt-ltb (named l) first (i .1), i .2, unfit-of first ls (i .3))
+unfit-of first (l ∷ ls) i =
+    rw (ne-eqb (named l) 0 (λ e. omega (arith, i .0)), lt-ltb (named l) first (i .1), i .2, unfit-of first ls (i .3))
 
 pub fit-at : (first : ℕ) (x : List ℤ) → Distinct-below first x → (j : ℕ) → j < length x → named (getD x j (pos 0)) < first
 fit-at first [] i j h = absurd (not-suc-le-zero h)
@@ -59,11 +57,14 @@ given-below first [] i = tt
 given-below first (l ∷ ls) i = ((omega (arith, variable-named l, i .0), omega (arith, variable-named l, i .1)), given-below first ls (i .3))
 
 -- and over the variables that x names, whatever may be said of them
-pub given-named : (Used : ℕ → Type 0) (first : ℕ) (x : List ℤ) → Distinct-below first x → ((u : ℕ) → names u x ≡ true → Used u) → Bits-below Used first (given x)
+pub given-named : (Used : ℕ → Type 0) (first : ℕ) (x : List ℤ) → Distinct-below first x → ((u : ℕ) → names u x ≡ true → Used u)
+    → Bits-below Used first (given x)
 given-named Used first [] i f = tt
 given-named Used first (l ∷ ls) i f =
-    let v : ℕ = literal-of-word l .variable in
-    ((f v (names-first v l ls (variable-named l)), omega (arith, variable-named l, i .1)), given-named Used first ls (i .3) (λ u q. f u (names-later u l ls q)))
+    let v : ℕ = literal-of-word l .variable in (
+      (f v (names-first v l ls (variable-named l)), omega (arith, variable-named l, i .1)),
+      given-named Used first ls (i .3) (λ u q. f u (names-later u l ls q)),
+    )
 
 value-of-word : (α : Assignment) (l : ℤ) → 0 < named l → num (value α (literal-of-word l)) ≡ entry-value α l
 value-of-word α (pos zero) h = absurd (not-suc-le-zero h)
@@ -81,26 +82,26 @@ abbrev pub all-false : List ℤ → Assignment
 all-false [] v = false
 all-false (l ∷ ls) v = cond (eqb (named l) v) (literal-of-word l .negated) (all-false ls v)
 
-reads-apart : (α β : Assignment) (u : ℕ) → ((v : ℕ) → (u ≡ v → ⊥) → α v ≡ β v) → (ls : List ℤ) → names u ls ≡ false → reads α (given ls) ≡ reads β (given ls)
+reads-apart : (α β : Assignment) (u : ℕ) → ((v : ℕ) → (u ≡ v → ⊥) → α v ≡ β v) → (ls : List ℤ) → names u ls ≡ false
+    → reads α (given ls) ≡ reads β (given ls)
 reads-apart α β u f [] e = refl
 reads-apart α β u f (l ∷ ls) e =
     let a = neither (eqb (named l) u) (names u ls) e in
     let b : value α (literal-of-word l) ≡ value β (literal-of-word l) =
-    ap (flips (literal-of-word l .negated)) (f (literal-of-word l .variable) (λ q. eqb-false (named l) u (a .0) (sym (variable-named l) ∙ sym q))) in
+    ap (flips (literal-of-word l .negated))
+    (f (literal-of-word l .variable) (λ q. eqb-false (named l) u (a .0) (sym (variable-named l) ∙ sym q))) in
     omega (arith, ap num b, reads-apart α β u f ls (a .1))
-
-flips-self : (b : Bool) → flips b b ≡ false
-flips-self true = refl
-flips-self false = refl
 
 pub reads-all-false : (first : ℕ) (x : List ℤ) → Distinct-below first x → reads (all-false x) (given x) ≡ 0
 reads-all-false first [] i = refl
 reads-all-false first (l ∷ ls) i =
     let α = all-false (l ∷ ls) in
     let s = literal-of-word l .negated in
-    let a : α (literal-of-word l .variable) ≡ s = ap (λ (t : Bool). cond t s (all-false ls (literal-of-word l .variable))) (eq-eqb (named l) _ (sym (variable-named l))) in
+    let a : α (literal-of-word l .variable) ≡ s =
+    ap (λ (t : Bool). cond t s (all-false ls (literal-of-word l .variable))) (eq-eqb (named l) _ (sym (variable-named l))) in
     let b : value α (literal-of-word l) ≡ false = ap (flips s) a ∙ flips-self s in
-    let d = reads-apart α (all-false ls) (named l) (λ v ne. ap (λ (t : Bool). cond t s (all-false ls v)) (ne-eqb (named l) v ne)) ls (i .2) in
+    let d =
+    reads-apart α (all-false ls) (named l) (λ v ne. ap (λ (t : Bool). cond t s (all-false ls v)) (ne-eqb (named l) v ne)) ls (i .2) in
     omega (arith, ap num b, d, reads-all-false first ls (i .3))
 
 -- ---- the renaming
@@ -177,7 +178,8 @@ numbered-other u v (suc w) h = rw (ne-eqb v u (λ e. omega arith)) (numbered-oth
 numbered-fits : (v w first : ℕ) → 0 < v → v + w ≤ first → Distinct-below first (numbered v w)
 unfolding numbered
 numbered-fits v zero first p h = tt
-numbered-fits v (suc w) first p h = (p, omega arith, numbered-other v (suc v) w (omega arith), numbered-fits (suc v) w first (omega arith) (omega arith))
+numbered-fits v (suc w) first p h =
+    (p, omega arith, numbered-other v (suc v) w (omega arith), numbered-fits (suc v) w first (omega arith) (omega arith))
 
 pub numbered-fit : (w : ℕ) → Distinct-below (suc w) (numbered 1 w)
 numbered-fit w = numbered-fits 1 w (suc w) (omega arith) (omega arith)
@@ -190,19 +192,22 @@ above-0 first (l ∷ ls) h f = omega (arith, f .1)
 
 module _ (x : List ℤ) (first : ℕ) (h : 0 < first) (f : Distinct-below first x) (t : ℕ) (lines : List Line) where
   abbrev plain : Product
-  plain = product t lines (given (numbered 1 (length x))) (suc (length x))
+  plain = product-made t lines (given (numbered 1 (length x))) (suc (length x))
 
-  pub product-as-numbered : Product-renamed (renaming x first) (suc (length x)) first plain (product t lines (given x) first)
+  pub product-as-numbered : Product-renamed (renaming x first) (suc (length x)) first plain (product-made t lines (given x) first)
   product-as-numbered =
       let ρ = renaming x first in
-      subst (λ (b : List Bit). Product-renamed ρ (suc (length x)) first plain (product t lines b first)) (x-renamed x first)
+      subst (λ (b : List Bit). Product-renamed ρ (suc (length x)) first plain (product-made t lines b first)) (x-renamed x first)
       (product-renamed ρ (renames x first h f) t lines (given (numbered 1 (length x))))
 
-  pub counts-as-numbered : Counts-same (suc (length x)) first plain (product t lines (given x) first)
-  counts-as-numbered = counts-same (renaming x first) plain (product t lines (given x) first) product-as-numbered
+  pub counts-as-numbered : Counts-same (suc (length x)) first plain (product-made t lines (given x) first)
+  counts-as-numbered = counts-same (renaming x first) plain (product-made t lines (given x) first) product-as-numbered
 
 -- what passing test 14 means
 pub literals-of : (w : ℕ) (x : List ℤ) (first : ℕ) → not-literals w x first ≡ false → (length x ≡ w) × Distinct-below first x
 literals-of w x first e =
     let l = neither (not (eqb (length x) w)) (unfit first x) e in
     (eqb-true (length x) w (not-false _ (l .0)), fit-of first x (l .1))
+
+pub of-literals : (w : ℕ) (x : List ℤ) (first : ℕ) → length x ≡ w → Distinct-below first x → not-literals w x first ≡ false
+of-literals w x first e f = rw (eq-eqb (length x) w e, unfit-of first x f)

@@ -34,8 +34,10 @@ length-adder (l ∷ ls) (r ∷ rs) c n e = ap suc (length-adder ls rs _ _ (omega
 pub length-line : (d : Kind) (m s : ℕ) (l r : List Bit) (n : ℕ) → length (line-sum d m l s r n .bits) ≡ m
 unfolding line-sum
 length-line splus m s l r n = length-adder (fitted m _) (fitted m _) _ n (length-fitted m _ ∙ sym (length-fitted m _)) ∙ length-fitted m _
-length-line sminus m s l r n = length-adder (fitted m _) (map flip (fitted m _)) _ n (length-fitted m _ ∙ sym (length-flipped m _)) ∙ length-fitted m _
-length-line minuss m s l r n = length-adder (fitted m _) (map flip (fitted m _)) _ n (length-fitted m _ ∙ sym (length-flipped m _)) ∙ length-fitted m _
+length-line sminus m s l r n =
+    length-adder (fitted m _) (map flip (fitted m _)) _ n (length-fitted m _ ∙ sym (length-flipped m _)) ∙ length-fitted m _
+length-line minuss m s l r n =
+    length-adder (fitted m _) (map flip (fitted m _)) _ n (length-fitted m _ ∙ sym (length-flipped m _)) ∙ length-fitted m _
 
 -- one operand more for each line
 pub length-operands : (m : ℕ → ℕ) (ls : List Line) (operands : List (List Bit)) (n : ℕ)

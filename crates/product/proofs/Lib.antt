@@ -19,6 +19,7 @@ pub mod WordsMean
 pub mod AcceptedMeans
 pub mod RenamedWords
 pub mod Plain
+pub mod Tests
 pub mod Success
 pub mod Demands
 pub mod Instances

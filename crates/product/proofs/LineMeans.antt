@@ -67,16 +67,20 @@ pub reads-lt : (α : Assignment) (bs : List Bit) → reads α bs < 2 ^ length bs
 reads-lt α [] = le-refl 1
 reads-lt α (b ∷ bs) = omega (arith, reads-lt α bs, num-le (bit-value α b), pow-suc 2 (length bs))
 
-shifted-congruent : (α : Assignment) (m s : ℕ) (bs : List Bit) (v : ℕ) → Congruent m (reads α bs) v → Congruent m (reads α (shifted s bs)) (2 ^ s * v)
+shifted-congruent : (α : Assignment) (m s : ℕ) (bs : List Bit) (v : ℕ) → Congruent m (reads α bs) v
+    → Congruent m (reads α (shifted s bs)) (2 ^ s * v)
 shifted-congruent α m s bs v h =
-    congruent-trans m (reads α (shifted s bs)) (2 ^ s * reads α bs) (2 ^ s * v) (congruent-of-eq m (reads-shifted α s bs)) (congruent-mul m (2 ^ s) (reads α bs) v h)
+    congruent-trans m (reads α (shifted s bs)) (2 ^ s * reads α bs) (2 ^ s * v) (congruent-of-eq m (reads-shifted α s bs))
+    (congruent-mul m (2 ^ s) (reads α bs) v h)
 
 -- what a term reads as, it reads as when it is fitted to m columns
 fitted-congruent : (α : Assignment) (m : ℕ) (bs : List Bit) (v : ℕ) → Congruent m (reads α bs) v → Congruent m (reads α (fitted m bs)) v
-fitted-congruent α m bs v h = congruent-trans m (reads α (fitted m bs)) (reads α bs) v (reads-fitted α m bs .0, 0, omega (arith, reads-fitted α m bs .1)) h
+fitted-congruent α m bs v h =
+    congruent-trans m (reads α (fitted m bs)) (reads α bs) v (reads-fitted α m bs .0, 0, omega (arith, reads-fitted α m bs .1)) h
 
 sum-congruent : (m S A B u v t : ℕ) → Congruent m S (A + B) → Congruent m A u → Congruent m B v → t ≡ u + v → Congruent m S t
-sum-congruent m S A B u v t h ha hb e = congruent-trans m S (A + B) t h (congruent-trans m (A + B) (u + v) t (congruent-add m A u B v ha hb) (congruent-of-eq m (sym e)))
+sum-congruent m S A B u v t h ha hb e =
+    congruent-trans m S (A + B) t h (congruent-trans m (A + B) (u + v) t (congruent-add m A u B v ha hb) (congruent-of-eq m (sym e)))
 
 difference-congruent : (m S A B u v t : ℕ) → Congruent m (S + B) A → Congruent m A u → Congruent m B v → t + v ≡ u → Congruent m S t
 difference-congruent m S A B u v t h ha hb e =
@@ -115,10 +119,12 @@ module _ (Used : ℕ → Type 0) where
         (fitted-below n m X ix) (fitted-below n m Y iy) tt
 
     plus-congruent : (α : Assignment) → satisfies α (adder (fitted m X) (fitted m Y) (fixed false) n .clauses) ≡ true
-        → (u v t : ℕ) → Congruent m (reads α X) u → Congruent m (reads α Y) v → t ≡ u + v → Congruent m (reads α (adder (fitted m X) (fitted m Y) (fixed false) n .bits)) t
+        → (u v t : ℕ) → Congruent m (reads α X) u → Congruent m (reads α Y) v → t ≡ u + v
+        → Congruent m (reads α (adder (fitted m X) (fitted m Y) (fixed false) n .bits)) t
     plus-congruent α h u v t cx cy e =
         let k = plus .adds α h in
-        sum-congruent m _ (reads α (fitted m X)) (reads α (fitted m Y)) u v t (k .0, 0, omega (arith, k .1, ap (λ (i : ℕ). 2 ^ i * k .0) (length-fitted m X)))
+        sum-congruent m _ (reads α (fitted m X)) (reads α (fitted m Y)) u v t
+        (k .0, 0, omega (arith, k .1, ap (λ (i : ℕ). 2 ^ i * k .0) (length-fitted m X)))
         (fitted-congruent α m X u cx) (fitted-congruent α m Y v cy) e
 
     minus : Adds Used (fitted m X) (map flip (fitted m Y)) (fixed true) n (adder (fitted m X) (map flip (fitted m Y)) (fixed true) n)
@@ -127,11 +133,21 @@ module _ (Used : ℕ → Type 0) where
         (fitted-below n m X ix) (flips-below n (fitted m Y) (fitted-below n m Y iy)) tt
 
     minus-congruent : (α : Assignment) → satisfies α (adder (fitted m X) (map flip (fitted m Y)) (fixed true) n .clauses) ≡ true
-        → (u v t : ℕ) → Congruent m (reads α X) u → Congruent m (reads α Y) v → t + v ≡ u → Congruent m (reads α (adder (fitted m X) (map flip (fitted m Y)) (fixed true) n .bits)) t
+        → (u v t : ℕ) → Congruent m (reads α X) u → Congruent m (reads α Y) v → t + v ≡ u
+        → Congruent m (reads α (adder (fitted m X) (map flip (fitted m Y)) (fixed true) n .bits)) t
     minus-congruent α h u v t cx cy e =
         let k = minus .adds α h in
-        difference-congruent m _ (reads α (fitted m X)) (reads α (fitted m Y)) u v t
-        (k .0, 1, omega (arith, k .1, ap (λ (i : ℕ). 2 ^ i * k .0) (length-fitted m X), reads-flip α (fitted m Y), ap (λ (i : ℕ). 2 ^ i) (length-fitted m Y)))
+        difference-congruent m _ (reads α (fitted m X)) (reads α (fitted m Y)) u v t (
+          k .0,
+          1,
+          omega (
+            arith,
+            k .1,
+            ap (λ (i : ℕ). 2 ^ i * k .0) (length-fitted m X),
+            reads-flip α (fitted m Y),
+            ap (λ (i : ℕ). 2 ^ i) (length-fitted m Y),
+          ),
+        )
         (fitted-congruent α m X u cx) (fitted-congruent α m Y v cy) e
 
   module _ (m s n : ℕ) (fresh : Fresh Used n) (L R : List Bit) (il : Bits-below Used n L) (ir : Bits-below Used n R) where
@@ -139,13 +155,16 @@ module _ (Used : ℕ → Type 0) where
         → Congruent m (reads α L) (l * x) → Congruent m (reads α R) (r * x) → Congruent m (reads α (line-sum d m L s R n .bits)) (k * x)
     unfolding line-sum
     line-value splus α h l r k x e cl cr =
-        plus-congruent m n fresh (shifted s L) R (shifted-below n s L il) ir α h (2 ^ s * (l * x)) (r * x) (k * x) (shifted-congruent α m s L (l * x) cl) cr
+        plus-congruent m n fresh (shifted s L) R (shifted-below n s L il) ir α h (2 ^ s * (l * x)) (r * x) (k * x)
+        (shifted-congruent α m s L (l * x) cl) cr
         (omega (arith, ap (λ (z : ℕ). z * x) e))
     line-value sminus α h l r k x e cl cr =
-        minus-congruent m n fresh (shifted s L) R (shifted-below n s L il) ir α h (2 ^ s * (l * x)) (r * x) (k * x) (shifted-congruent α m s L (l * x) cl) cr
+        minus-congruent m n fresh (shifted s L) R (shifted-below n s L il) ir α h (2 ^ s * (l * x)) (r * x) (k * x)
+        (shifted-congruent α m s L (l * x) cl) cr
         (omega (arith, ap (λ (z : ℕ). z * x) e))
     line-value minuss α h l r k x e cl cr =
-        minus-congruent m n fresh L (shifted s R) il (shifted-below n s R ir) α h (l * x) (2 ^ s * (r * x)) (k * x) cl (shifted-congruent α m s R (r * x) cr)
+        minus-congruent m n fresh L (shifted s R) il (shifted-below n s R ir) α h (l * x) (2 ^ s * (r * x)) (k * x) cl
+        (shifted-congruent α m s R (r * x) cr)
         (omega (arith, ap (λ (z : ℕ). z * x) e))
 
     line-adds : (d : Kind) → let a = line-sum d m L s R n in (Extends Used n (a .next) (a .clauses)) × (Bits-below Used (a .next) (a .bits))

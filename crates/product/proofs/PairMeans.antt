@@ -12,7 +12,7 @@ use Rattle.cnf.proofs.Extend.{eq-of-beq}
 use Rattle.product.specs.Bit.{Bit, fixed, unfixed, flip, bit-value, num}
 use Rattle.product.specs.Column.{literals, Pair, none, equal, opposite, pair-by, pair-or, first-pair}
 use Rattle.product.specs.Demand.{Bit-below}
-use Rattle.product.proofs.ShapeMeans.{flips-not}
+use Rattle.cnf.proofs.Flips.{flips-not}
 
 abbrev pub bit-number : Assignment → Bit → ℕ
 bit-number α b = num (bit-value α b)

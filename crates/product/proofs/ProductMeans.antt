@@ -14,7 +14,7 @@ use Rattle.cnf.proofs.Extend.{Agree, Extends, Fresh, value-local}
 use Rattle.cnf.specs.Words.{From-1}
 use Rattle.product.specs.Bit.{Bit, fixed, unfixed, num, reads}
 use Rattle.product.specs.Lines.{columns, line-encoded, encoded}
-use Rattle.product.specs.Product.{last, Product, product}
+use Rattle.product.specs.Product.{last-or, Product, product-made}
 use Rattle.product.specs.Demand.{Bit-below, Bits-below, Lines-right, lines-product, Multiplies}
 use Rattle.product.proofs.BitLengths.{columns-of-0, columns-of-x}
 use Rattle.product.proofs.Lengths.{length-shifted, length-line}
@@ -24,14 +24,16 @@ use Rattle.product.proofs.RecipeMeans.{coefficients, Related, related-s
 
 -- ---- the last operand
 
-last-snoc : (d : ℕ) (ks : List ℕ) (k : ℕ) → last d (ks ++ (k ∷ [])) ≡ k
+last-snoc : (d : ℕ) (ks : List ℕ) (k : ℕ) → last-or d (ks ++ (k ∷ [])) ≡ k
 last-snoc d [] k = refl
 last-snoc d (e ∷ ks) k = last-snoc e ks k
 
-last-coefficient : (d : ℕ) (ls : List Line) (ks : List ℕ) → last d (coefficients ls ks) ≡ last (last d ks) (map (λ (l : Line). l .coefficient) ls)
+last-coefficient : (d : ℕ) (ls : List Line) (ks : List ℕ)
+    → last-or d (coefficients ls ks) ≡ last-or (last-or d ks) (map (λ (l : Line). l .coefficient) ls)
 last-coefficient d [] ks = refl
 last-coefficient d (l ∷ ls) ks =
-    last-coefficient d ls (ks ++ (l .coefficient ∷ [])) ∙ ap (λ (e : ℕ). last e (map (λ (l : Line). l .coefficient) ls)) (last-snoc d ks (l .coefficient))
+    last-coefficient d ls (ks ++ (l .coefficient ∷ []))
+    ∙ ap (λ (e : ℕ). last-or e (map (λ (l : Line). l .coefficient) ls)) (last-snoc d ks (l .coefficient))
 
 -- ---- no bit is fixed at 1 where the bits can read 0
 
@@ -53,7 +55,7 @@ module _ (Used : ℕ → Type 0) where
   reads-local [] i h = refl
   reads-local (b ∷ bs) i h = omega (arith, bit-local b (i .0) h, reads-local bs (i .1) h)
 
-  last-below : (n : ℕ) (o : List Bit) (os : List (List Bit)) → Bits-below Used n o → All-below Used n os → Bits-below Used n (last o os)
+  last-below : (n : ℕ) (o : List Bit) (os : List (List Bit)) → Bits-below Used n o → All-below Used n os → Bits-below Used n (last-or o os)
   last-below n o [] h i = h
   last-below n o (p ∷ os) h i = last-below n p os (i .0) (i .1)
 
@@ -65,8 +67,8 @@ module _ (Used : ℕ → Type 0) where
     pub below : Bits-below Used (p .next) (p .y)
 
   pub product-multiplies : (t : ℕ) (ls : List Line) (x : List Bit) (n : ℕ) → Fresh Used n → Bits-below Used n x → Lines-right ls (1 ∷ [])
-      → Product-multiplies (lines-product ls * 2 ^ t) x n (product t ls x n)
-  unfolding product encoded
+      → Product-multiplies (lines-product ls * 2 ^ t) x n (product-made t ls x n)
+  unfolding product-made encoded
   product-multiplies t ls x n fresh i g =
       let r = recipe-multiplies Used (columns (length x)) ls (x ∷ []) (1 ∷ []) n fresh (i, tt) g in
       let e = encoded (columns (length x)) ls (x ∷ []) n in
@@ -74,12 +76,12 @@ module _ (Used : ℕ → Type 0) where
         value = λ α h.
             let v : ℕ = reads α x in
             let m = r .value α h (λ k o. reads α o ≡ k * v) (omega arith) (exact (length x) v α (reads-lt α x)) (omega arith, tt) in
-            let q : reads α (last [] (e .operands)) ≡ lines-product ls * reads α x =
+            let q : reads α (last-or [] (e .operands)) ≡ lines-product ls * reads α x =
             related-last (λ k o. reads α o ≡ k * v) [] 0 (e .operands) (coefficients ls (1 ∷ [])) (omega arith) m
             ∙ ap (λ (k : ℕ). k * reads α x) (last-coefficient 0 ls (1 ∷ [])) in
-            reads-shifted α t (last [] (e .operands)) ∙ ap (λ (k : ℕ). 2 ^ t * k) q ∙ omega arith;
+            reads-shifted α t (last-or [] (e .operands)) ∙ ap (λ (k : ℕ). 2 ^ t * k) q ∙ omega arith;
         extends = r .extends;
-        below = shifted-below Used (e .next) t (last [] (e .operands)) (last-below (e .next) [] (e .operands) tt (r .below));
+        below = shifted-below Used (e .next) t (last-or [] (e .operands)) (last-below (e .next) [] (e .operands) tt (r .below));
       }
 
 -- ---- y's number of bits
@@ -95,14 +97,16 @@ sized w (l ∷ ls) operands ks n h =
     (related-snoc (λ k o. length o ≡ columns w k) operands ks (s .bits) (l .coefficient) h
     (length-line (kind-of (l .kind)) (columns w (l .coefficient)) (l .shift) (getD operands (l .left) []) (getD operands (l .right) []) n))
 
-pub length-y : (t : ℕ) (ls : List Line) (x : List Bit) (n : ℕ) → 0 < length x → length (product t ls x n .y) ≡ t + columns (length x) (lines-product ls)
-unfolding product
+pub length-y : (t : ℕ) (ls : List Line) (x : List Bit) (n : ℕ) → 0 < length x
+    → length (product-made t ls x n .y) ≡ t + columns (length x) (lines-product ls)
+unfolding product-made
 length-y t ls x n p =
     let w : ℕ = length x in
     let os = encoded (columns w) ls (x ∷ []) n .operands in
-    let e : length (last [] os) ≡ columns w (last 0 (coefficients ls (1 ∷ []))) =
-    related-last (λ k o. length o ≡ columns w k) [] 0 os (coefficients ls (1 ∷ [])) (sym (columns-of-0 w)) (sized w ls (x ∷ []) (1 ∷ []) n (sym (columns-of-x w p), tt)) in
-    length-shifted t (last [] os) ∙ ap (λ (k : ℕ). t + k) (e ∙ ap (λ (k : ℕ). columns w k) (last-coefficient 0 ls (1 ∷ [])))
+    let e : length (last-or [] os) ≡ columns w (last-or 0 (coefficients ls (1 ∷ []))) =
+    related-last (λ k o. length o ≡ columns w k) [] 0 os (coefficients ls (1 ∷ [])) (sym (columns-of-0 w))
+    (sized w ls (x ∷ []) (1 ∷ []) n (sym (columns-of-x w p), tt)) in
+    length-shifted t (last-or [] os) ∙ ap (λ (k : ℕ). t + k) (e ∙ ap (λ (k : ℕ). columns w k) (last-coefficient 0 ls (1 ∷ [])))
 
 -- ---- in DIMACS, where the variables are those from 1 on
 

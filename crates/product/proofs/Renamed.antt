@@ -18,11 +18,12 @@ use Rattle.line.specs.declared.Line.{Line}
 use Rattle.cnf.specs.Clause.{Literal, Clause, flips, signed, negation, new}
 use Rattle.cnf.specs.Words.{word, words}
 use Rattle.product.specs.Bit.{Bit, fixed, unfixed, flip}
-use Rattle.product.specs.Column.{fixed-sum, literals, odd, Pair, none, equal, opposite, pair-by, pair-or, first-pair, Made, parity, sum, both, either, most, carry, sum-of, carry-of, carry-unless, Column, column}
+use Rattle.product.specs.Column.{fixed-sum, literals, is-odd, Pair, none, equal, opposite, pair-by, pair-or, first-pair, Made, parity}
+use Rattle.product.specs.Column.{sum-made, both, either, most, carry-made, sum-of, carry-of, carry-unless, Column, column}
 use Rattle.product.specs.Lines.{Sum, adder, shifted, fitted, line-sum, columns, line-encoded, Encoded, encoded}
-use Rattle.product.specs.Product.{last, Product, product}
+use Rattle.product.specs.Product.{last-or, Product, product-made}
 use Rattle.product.specs.Renaming.{Renaming, literal-renamed}
-use Rattle.product.proofs.ShapeMeans.{flips-flips}
+use Rattle.cnf.proofs.Flips.{flips-flips}
 
 -- ---- what is renamed
 
@@ -56,7 +57,8 @@ module _ (ρ : Renaming) where
 
   signed-renamed : (o : Bool) (l : Literal) → signed o (literal-renamed ρ l) ≡ literal-renamed ρ (signed o l)
   signed-renamed o l =
-      ap (λ (s : Bool). record { variable = ρ (l .variable) .variable; negated = s }) (sym (flips-flips o (l .negated) (ρ (l .variable) .negated)))
+      ap (λ (s : Bool). record { variable = ρ (l .variable) .variable; negated = s })
+      (sym (flips-flips o (l .negated) (ρ (l .variable) .negated)))
 
   negation-renamed : (l : Literal) → negation (literal-renamed ρ l) ≡ literal-renamed ρ (negation l)
   negation-renamed l = signed-renamed true l
@@ -89,20 +91,23 @@ module _ (ρ : Renaming) where
         ap₂ (λ (cs ds : List Clause). map (λ (c : Clause). literal-renamed ρ p ∷ c) cs ++ ds) (parity-renamed ps o)
         (ap₂ (λ (l : Literal) (ds : List Clause). map (λ (c : Clause). l ∷ c) ds) (negation-renamed p) (parity-renamed ps (not o)))
         ∙ ap₂ (λ (cs ds : List Clause). cs ++ ds) (prefix-renamed p (parity ps o n)) (prefix-renamed (negation p) (parity ps (not o) n))
-        ∙ sym (map-append (clause-renamed ρ) (map (λ (c : Clause). p ∷ c) (parity ps o n)) (map (λ (c : Clause). negation p ∷ c) (parity ps (not o) n)))
+        ∙ sym (map-append (clause-renamed ρ) (map (λ (c : Clause). p ∷ c) (parity ps o n))
+        (map (λ (c : Clause). negation p ∷ c) (parity ps (not o) n)))
 
     opened-renamed : (cs cs′ : List Clause) → cs′ ≡ clauses-renamed ρ cs
-        → Made-renamed n m (record { bit = unfixed (new n); clauses = cs; next = suc n }) (record { bit = unfixed (new m); clauses = cs′; next = suc m })
+        → Made-renamed n m (record { bit = unfixed (new n); clauses = cs; next = suc n })
+        (record { bit = unfixed (new m); clauses = cs′; next = suc m })
     opened-renamed cs cs′ e = record { bit = ap unfixed (new-renamed h); clauses = e; opened = 1; next = omega arith; next′ = omega arith }
 
-    plain-renamed : (b b′ : Bit) → b′ ≡ bit-renamed ρ b → Made-renamed n m (record { bit = b; clauses = []; next = n }) (record { bit = b′; clauses = []; next = m })
+    plain-renamed : (b b′ : Bit) → b′ ≡ bit-renamed ρ b
+        → Made-renamed n m (record { bit = b; clauses = []; next = n }) (record { bit = b′; clauses = []; next = m })
     plain-renamed b b′ e = record { bit = e; clauses = refl; opened = 0; next = omega arith; next′ = omega arith }
 
-    sum-renamed : (f : ℕ) (ps : List Literal) → Made-renamed n m (sum f ps n) (sum f (map (literal-renamed ρ) ps) m)
-    unfolding sum
+    sum-renamed : (f : ℕ) (ps : List Literal) → Made-renamed n m (sum-made f ps n) (sum-made f (map (literal-renamed ρ) ps) m)
+    unfolding sum-made
     sum-renamed f [] = plain-renamed _ _ refl
-    sum-renamed f (p ∷ []) = plain-renamed _ _ (ap unfixed (signed-renamed (odd f) p))
-    sum-renamed f (p ∷ q ∷ ps) = opened-renamed _ _ (parity-renamed (p ∷ q ∷ ps) (odd f))
+    sum-renamed f (p ∷ []) = plain-renamed _ _ (ap unfixed (signed-renamed (is-odd f) p))
+    sum-renamed f (p ∷ q ∷ ps) = opened-renamed _ _ (parity-renamed (p ∷ q ∷ ps) (is-odd f))
 
     -- clauses of literals and their negations
     new-negated : negation (new m) ≡ literal-renamed ρ (negation (new n))
@@ -121,8 +126,8 @@ module _ (ρ : Renaming) where
     unfolding most
     most-renamed p q r = rw (new-negated, new-renamed h, negation-renamed p, negation-renamed q, negation-renamed r)
 
-    carry-renamed : (f : ℕ) (ps : List Literal) → Made-renamed n m (carry f ps n) (carry f (map (literal-renamed ρ) ps) m)
-    unfolding carry
+    carry-renamed : (f : ℕ) (ps : List Literal) → Made-renamed n m (carry-made f ps n) (carry-made f (map (literal-renamed ρ) ps) m)
+    unfolding carry-made
     carry-renamed f [] = plain-renamed _ _ refl
     carry-renamed zero (p ∷ []) = plain-renamed _ _ refl
     carry-renamed (suc zero) (p ∷ []) = plain-renamed _ _ refl
@@ -233,7 +238,9 @@ module _ (ρ : Renaming) where
       rw (first-pair-renamed h l r c) (record {
         sum-bit = s .bit;
         carry-bit = t .bit;
-        clauses = ap₂ (λ (cs ds : List Clause). cs ++ ds) (s .clauses) (t .clauses) ∙ sym (map-append (clause-renamed ρ) (s₀ .clauses) (t₀ .clauses));
+        clauses =
+            ap₂ (λ (cs ds : List Clause). cs ++ ds) (s .clauses) (t .clauses)
+            ∙ sym (map-append (clause-renamed ρ) (s₀ .clauses) (t₀ .clauses));
         opened = s .opened + t .opened;
         next = omega (arith, s .next, t .next);
         next′ = omega (arith, s .next′, t .next′);
@@ -254,13 +261,15 @@ module _ (ρ : Renaming) where
       (record { bits = k′ .sum-bit ∷ s′ .bits; clauses = k′ .clauses ++ s′ .clauses; next = s′ .next })
   sum-step {n} {m} {k} {k′} {s} {s′} a b = record {
     bits = ap₂ (λ (x : Bit) (xs : List Bit). x ∷ xs) (a .sum-bit) (b .bits);
-    clauses = ap₂ (λ (cs ds : List Clause). cs ++ ds) (a .clauses) (b .clauses) ∙ sym (map-append (clause-renamed ρ) (k .clauses) (s .clauses));
+    clauses =
+        ap₂ (λ (cs ds : List Clause). cs ++ ds) (a .clauses) (b .clauses) ∙ sym (map-append (clause-renamed ρ) (k .clauses) (s .clauses));
     opened = a .opened + b .opened;
     next = omega (arith, a .next, b .next);
     next′ = omega (arith, a .next′, b .next′);
   }
 
-  nothing-renamed : (n m : ℕ) → Sum-renamed n m (record { bits = []; clauses = []; next = n }) (record { bits = []; clauses = []; next = m })
+  nothing-renamed : (n m : ℕ)
+      → Sum-renamed n m (record { bits = []; clauses = []; next = n }) (record { bits = []; clauses = []; next = m })
   nothing-renamed n m = record { bits = refl; clauses = refl; opened = 0; next = omega arith; next′ = omega arith }
 
   pub adder-renamed : {n m : ℕ} → Renames ρ n m → (ls rs : List Bit) (c c′ : Bit) → c′ ≡ bit-renamed ρ c
@@ -269,11 +278,15 @@ module _ (ρ : Renaming) where
   adder-renamed {n} {m} h [] rs c c′ e = nothing-renamed n m
   adder-renamed {n} {m} h (l ∷ ls) [] c c′ e = nothing-renamed n m
   adder-renamed {n} {m} h (l ∷ []) (r ∷ rs) c c′ e =
-      let k : Column-renamed n m (column l r c true n) (column (bit-renamed ρ l) (bit-renamed ρ r) c′ true m) = rw (e) (column-renamed h l r c true) in
-      sum-step k (adder-renamed (renames-more (k .opened) h (k .next) (k .next′)) [] rs (column l r c true n .carry-bit) (column (bit-renamed ρ l) (bit-renamed ρ r) c′ true m .carry-bit) (k .carry-bit))
+      let k : Column-renamed n m (column l r c true n) (column (bit-renamed ρ l) (bit-renamed ρ r) c′ true m) =
+      rw (e) (column-renamed h l r c true) in
+      sum-step k (adder-renamed (renames-more (k .opened) h (k .next) (k .next′)) [] rs (column l r c true n .carry-bit)
+      (column (bit-renamed ρ l) (bit-renamed ρ r) c′ true m .carry-bit) (k .carry-bit))
   adder-renamed {n} {m} h (l ∷ o ∷ ls) (r ∷ rs) c c′ e =
-      let k : Column-renamed n m (column l r c false n) (column (bit-renamed ρ l) (bit-renamed ρ r) c′ false m) = rw (e) (column-renamed h l r c false) in
-      sum-step k (adder-renamed (renames-more (k .opened) h (k .next) (k .next′)) (o ∷ ls) rs (column l r c false n .carry-bit) (column (bit-renamed ρ l) (bit-renamed ρ r) c′ false m .carry-bit) (k .carry-bit))
+      let k : Column-renamed n m (column l r c false n) (column (bit-renamed ρ l) (bit-renamed ρ r) c′ false m) =
+      rw (e) (column-renamed h l r c false) in
+      sum-step k (adder-renamed (renames-more (k .opened) h (k .next) (k .next′)) (o ∷ ls) rs (column l r c false n .carry-bit)
+      (column (bit-renamed ρ l) (bit-renamed ρ r) c′ false m .carry-bit) (k .carry-bit))
 
   -- ---- a line
 
@@ -301,9 +314,11 @@ module _ (ρ : Renaming) where
   unfolding line-sum
   line-renamed h splus k s l r = rw (shifted-renamed s l, fitted-renamed k (shifted s l), fitted-renamed k r) (adder-renamed h _ _ _ _ refl)
   line-renamed h sminus k s l r =
-      rw (shifted-renamed s l, fitted-renamed k (shifted s l), fitted-renamed k r, flips-renamed (fitted k r)) (adder-renamed h _ _ _ _ refl)
+      rw (shifted-renamed s l, fitted-renamed k (shifted s l), fitted-renamed k r, flips-renamed (fitted k r))
+      (adder-renamed h _ _ _ _ refl)
   line-renamed h minuss k s l r =
-      rw (fitted-renamed k l, shifted-renamed s r, fitted-renamed k (shifted s r), flips-renamed (fitted k (shifted s r))) (adder-renamed h _ _ _ _ refl)
+      rw (fitted-renamed k l, shifted-renamed s r, fitted-renamed k (shifted s r), flips-renamed (fitted k (shifted s r)))
+      (adder-renamed h _ _ _ _ refl)
 
   -- ---- a recipe
 
@@ -324,7 +339,8 @@ module _ (ρ : Renaming) where
       → Sum-renamed n m (line-encoded f l os n) (line-encoded f l (operands-renamed os) m)
   unfolding line-encoded
   line-encoded-renamed h f l os =
-      rw (operand-renamed os (l .left), operand-renamed os (l .right)) (line-renamed h (kind-of (l .kind)) (f (l .coefficient)) (l .shift) (getD os (l .left) []) (getD os (l .right) []))
+      rw (operand-renamed os (l .left), operand-renamed os (l .right))
+      (line-renamed h (kind-of (l .kind)) (f (l .coefficient)) (l .shift) (getD os (l .left) []) (getD os (l .right) []))
 
   pub encoded-renamed : {n m : ℕ} → Renames ρ n m → (f : ℕ → ℕ) (ls : List Line) (os os′ : List (List Bit)) → os′ ≡ operands-renamed os
       → Encoded-renamed n m (encoded f ls os n) (encoded f ls os′ m)
@@ -355,18 +371,20 @@ module _ (ρ : Renaming) where
     pub next : p .next ≡ n + opened
     pub next′ : p′ .next ≡ m + opened
 
-  last-renamed : (o : List Bit) (os : List (List Bit)) → last (bits-renamed ρ o) (operands-renamed os) ≡ bits-renamed ρ (last o os)
+  last-renamed : (o : List Bit) (os : List (List Bit)) → last-or (bits-renamed ρ o) (operands-renamed os) ≡ bits-renamed ρ (last-or o os)
   last-renamed o [] = refl
   last-renamed o (p ∷ os) = last-renamed p os
 
   pub product-renamed : {n m : ℕ} → Renames ρ n m → (t : ℕ) (ls : List Line) (x : List Bit)
-      → Product-renamed n m (product t ls x n) (product t ls (bits-renamed ρ x) m)
-  unfolding product
+      → Product-renamed n m (product-made t ls x n) (product-made t ls (bits-renamed ρ x) m)
+  unfolding product-made
   product-renamed {n} {m} h t ls x =
       let e = encoded-renamed h (columns (length x)) ls (x ∷ []) (bits-renamed ρ x ∷ []) refl in
       let os : List (List Bit) = encoded (columns (length x)) ls (x ∷ []) n .operands in
       rw (length-map x (bit-renamed ρ)) (record {
-        y = ap (λ (o : List (List Bit)). shifted t (last [] o)) (e .operands) ∙ ap (shifted t) (last-renamed [] os) ∙ shifted-renamed t (last [] os);
+        y =
+            ap (λ (o : List (List Bit)). shifted t (last-or [] o)) (e .operands) ∙ ap (shifted t) (last-renamed [] os)
+            ∙ shifted-renamed t (last-or [] os);
         clauses = e .clauses;
         opened = e .opened;
         next = e .next;
@@ -379,7 +397,8 @@ module _ (ρ : Renaming) where
   words-renamed [] = refl
   words-renamed (c ∷ cs) =
       length-append (map word (clause-renamed ρ c)) (pos 0 ∷ words (clauses-renamed ρ cs))
-      ∙ ap₂ (λ (a b : ℕ). a + suc b) (length-map (clause-renamed ρ c) word ∙ length-map c (literal-renamed ρ) ∙ sym (length-map c word)) (words-renamed cs)
+      ∙ ap₂ (λ (a b : ℕ). a + suc b) (length-map (clause-renamed ρ c) word ∙ length-map c (literal-renamed ρ) ∙ sym (length-map c word))
+      (words-renamed cs)
       ∙ sym (length-append (map word c) (pos 0 ∷ words cs))
 
   pub counts-same : {n m : ℕ} (p p′ : Product) → Product-renamed n m p p′ → Counts-same n m p p′

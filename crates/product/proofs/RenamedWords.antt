@@ -29,7 +29,8 @@ module _ (ρ : Renaming) (n : ℕ) where
   pub words-renamed : (cs : List Clause) → Names From-1 n cs → words (clauses-renamed ρ cs) ≡ map (word-renamed ρ) (words cs)
   words-renamed [] i = refl
   words-renamed (c ∷ cs) i =
-      ap₂ (λ (a b : List ℤ). a ++ (pos 0 ∷ b)) (clause-words-renamed c (i .0)) (words-renamed cs (i .1)) ∙ sym (map-append (word-renamed ρ) (map word c) (pos 0 ∷ words cs))
+      ap₂ (λ (a b : List ℤ). a ++ (pos 0 ∷ b)) (clause-words-renamed c (i .0)) (words-renamed cs (i .1))
+      ∙ sym (map-append (word-renamed ρ) (map word c) (pos 0 ∷ words cs))
 
   pub entries-renamed : (bs : List Bit) → Bits-below From-1 n bs → map stored (bits-renamed ρ bs) ≡ map (word-renamed ρ) (map stored bs)
   entries-renamed [] i = refl

@@ -32,21 +32,22 @@ entries-of-y : (n : ℕ) (α : Assignment) (bs : List Bit) → Bits-below From-1
 entries-of-y n α [] i f = refl
 entries-of-y n α (fixed true ∷ bs) i f = absurd (f 0 refl)
 entries-of-y n α (fixed false ∷ bs) i f = omega (arith, entries-of-y n α bs (i .1) (λ k. f (suc k)))
-entries-of-y n α (unfixed l ∷ bs) i f = omega (arith, literal-value α (l .negated) (l .variable) (i .0 .0), entries-of-y n α bs (i .1) (λ k. f (suc k)))
+entries-of-y n α (unfixed l ∷ bs) i f =
+    omega (arith, literal-value α (l .negated) (l .variable) (i .0 .0), entries-of-y n α bs (i .1) (λ k. f (suc k)))
 
 -- ---- lists of values
 
-table : Assignment → ℕ → ℕ → List Bool
-table α v zero = []
-table α v (suc n) = α v ∷ table α (suc v) n
+values-from : Assignment → ℕ → ℕ → List Bool
+values-from α v zero = []
+values-from α v (suc n) = α v ∷ values-from α (suc v) n
 
-length-table : (α : Assignment) (v n : ℕ) → length (table α v n) ≡ n
-unfolding table
+length-table : (α : Assignment) (v n : ℕ) → length (values-from α v n) ≡ n
+unfolding values-from
 length-table α v zero = refl
 length-table α v (suc n) = ap suc (length-table α (suc v) n)
 
-table-at : (α : Assignment) (v n i : ℕ) → i < n → getD (table α v n) i false ≡ α (v + i)
-unfolding table
+table-at : (α : Assignment) (v n i : ℕ) → i < n → getD (values-from α v n) i false ≡ α (v + i)
+unfolding values-from
 table-at α v zero i h = absurd (not-suc-le-zero h)
 table-at α v (suc n) zero h = ap α (sym (add-zero v))
 table-at α v (suc n) (suc i) h = table-at α (suc v) n i (omega arith) ∙ ap α (omega arith)
@@ -58,7 +59,8 @@ take-at-place (suc k) [] j h = refl
 take-at-place (suc k) (b ∷ a) zero h = refl
 take-at-place (suc k) (b ∷ a) (suc j) h = take-at-place k a j (omega arith)
 
-module _ (c : ℕ) (x : List ℤ) (first : ℕ) (fit : Distinct-below first x) (some : 0 < first) (p : Product) (f : Product-multiplies From-1 c (given x) first p) where
+module _ (c : ℕ) (x : List ℤ) (first : ℕ) (fit : Distinct-below first x) (some : 0 < first) (p : Product)
+    (f : Product-multiplies From-1 c (given x) first p) where
   pub no-bit-fixed-at-1 : (k : ℕ) → getD (p .y) k (fixed false) ≢ fixed true
   no-bit-fixed-at-1 = y-not-fixed-at-1 c (given x) first p f (given-below first x fit) (all-false x) (reads-all-false first x fit)
 
@@ -78,7 +80,8 @@ module _ (c : ℕ) (x : List ℤ) (first : ℕ) (fit : Distinct-below first x) (
   words-satisfied α = ap (satisfies α) (clauses-of-words (p .next) (p .clauses) (f .extends .names))
 
   pub entries-multiply : (α : Assignment) → satisfies α (p .clauses) ≡ true → entries-read α (y-entries p) ≡ c * entries-read α x
-  entries-multiply α s = entries-of-y (p .next) α (p .y) (f .below) no-bit-fixed-at-1 ∙ f .value α s ∙ ap (λ (k : ℕ). c * k) (reads-given first α x fit)
+  entries-multiply α s =
+      entries-of-y (p .next) α (p .y) (f .below) no-bit-fixed-at-1 ∙ f .value α s ∙ ap (λ (k : ℕ). c * k) (reads-given first α x fit)
 
   -- ---- no variable twice
 
@@ -93,7 +96,7 @@ module _ (c : ℕ) (x : List ℤ) (first : ℕ) (fit : Distinct-below first x) (
       let k : ℕ = first - 1 in
       let α : Assignment = assignment before in
       let b = f .extends .exists α in
-      let a : List Bool = table (b .0) 1 n in
+      let a : List Bool = values-from (b .0) 1 n in
       let grows : first ≤ p .next = f .extends .grows in
       let la : length a ≡ n = length-table (b .0) 1 n in
       let at : (j : ℕ) → j < n → getD a j false ≡ b .0 (suc j) = λ j h. table-at (b .0) 1 n j h ∙ ap (b .0) (omega arith) in
@@ -104,7 +107,8 @@ module _ (c : ℕ) (x : List ℤ) (first : ℕ) (fit : Distinct-below first x) (
         extends =
             ext-getD false (take k a) before (length-take-le k a (omega arith) ∙ sym lb) (λ j h.
             let h′ : j < k = omega (arith, length-take-le k a (omega arith)) in
-            take-at-place k a j h′ ∙ at j (omega arith) ∙ sym (b .1 (suc j) (omega arith) (omega arith)) ∙ ap (λ (i : ℕ). getD before i false) (omega arith));
+            take-at-place k a j h′ ∙ at j (omega arith) ∙ sym (b .1 (suc j) (omega arith) (omega arith))
+            ∙ ap (λ (i : ℕ). getD before i false) (omega arith));
         existence = words-satisfied (assignment a) ∙ satisfies-local From-1 (p .clauses) (f .extends .names) agree ∙ b .2;
         uniqueness = λ o lo io so.
             let s : satisfies (assignment o) (p .clauses) ≡ true = sym (words-satisfied (assignment o)) ∙ so in

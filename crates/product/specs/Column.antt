@@ -20,9 +20,9 @@ literals [] = []
 literals (fixed b ∷ bs) = literals bs
 literals (unfixed l ∷ bs) = l ∷ literals bs
 
-abbrev pub odd : ℕ → Bool
-odd zero = false
-odd (suc n) = not (odd n)
+abbrev pub is-odd : ℕ → Bool
+is-odd zero = false
+is-odd (suc n) = not (is-odd n)
 
 abbrev pub at-least-two : ℕ → Bool
 at-least-two zero = false
@@ -76,10 +76,10 @@ unfoldable pub parity : List Literal → Bool → ℕ → List Clause
 parity [] o z = (signed (not o) (new z) ∷ []) ∷ []
 parity (p ∷ ps) o z = map (λ (c : Clause). p ∷ c) (parity ps o z) ++ map (λ (c : Clause). negation p ∷ c) (parity ps (not o) z)
 
-unfoldable pub sum : ℕ → List Literal → ℕ → Made
-sum f [] n = plain (fixed (odd f)) n
-sum f (p ∷ []) n = plain (unfixed (signed (odd f) p)) n
-sum f (p ∷ q ∷ ps) n = opened n (parity (p ∷ q ∷ ps) (odd f) n)
+unfoldable pub sum-made : ℕ → List Literal → ℕ → Made
+sum-made f [] n = plain (fixed (is-odd f)) n
+sum-made f (p ∷ []) n = plain (unfixed (signed (is-odd f) p)) n
+sum-made f (p ∷ q ∷ ps) n = opened n (parity (p ∷ q ∷ ps) (is-odd f) n)
 
 -- ---- the carry
 
@@ -99,26 +99,26 @@ most p q r t =
     ∷ (negation q ∷ negation r ∷ t ∷ [])
     ∷ []
 
-unfoldable pub carry : ℕ → List Literal → ℕ → Made
-carry f [] n = plain (fixed (at-least-two f)) n
-carry zero (p ∷ []) n = plain (fixed false) n
-carry (suc zero) (p ∷ []) n = plain (unfixed p) n
-carry (suc (suc f)) (p ∷ []) n = plain (fixed true) n
-carry zero (p ∷ q ∷ []) n = opened n (both p q (new n))
-carry (suc f) (p ∷ q ∷ []) n = opened n (either p q (new n))
-carry f (p ∷ q ∷ r ∷ ps) n = opened n (most p q r (new n))
+unfoldable pub carry-made : ℕ → List Literal → ℕ → Made
+carry-made f [] n = plain (fixed (at-least-two f)) n
+carry-made zero (p ∷ []) n = plain (fixed false) n
+carry-made (suc zero) (p ∷ []) n = plain (unfixed p) n
+carry-made (suc (suc f)) (p ∷ []) n = plain (fixed true) n
+carry-made zero (p ∷ q ∷ []) n = opened n (both p q (new n))
+carry-made (suc f) (p ∷ q ∷ []) n = opened n (either p q (new n))
+carry-made f (p ∷ q ∷ r ∷ ps) n = opened n (most p q r (new n))
 
 -- ---- the sum and the carry of inputs with their first pair
 
 -- both of a pair leave the sum; opposite ones flip its parity; its cases apply to what remains
 unfoldable pub sum-of : Pair → List Bit → ℕ → Made
-sum-of none inputs n = sum (fixed-sum inputs) (literals inputs) n
-sum-of (equal p r) inputs n = sum (fixed-sum (r ∷ [])) (literals (r ∷ [])) n
-sum-of (opposite r) inputs n = sum (suc (fixed-sum (r ∷ []))) (literals (r ∷ [])) n
+sum-of none inputs n = sum-made (fixed-sum inputs) (literals inputs) n
+sum-of (equal p r) inputs n = sum-made (fixed-sum (r ∷ [])) (literals (r ∷ [])) n
+sum-of (opposite r) inputs n = sum-made (suc (fixed-sum (r ∷ []))) (literals (r ∷ [])) n
 
 -- equal ones carry their literal, opposite ones the remaining input
 unfoldable pub carry-of : Pair → List Bit → ℕ → Made
-carry-of none inputs n = carry (fixed-sum inputs) (literals inputs) n
+carry-of none inputs n = carry-made (fixed-sum inputs) (literals inputs) n
 carry-of (equal p r) inputs n = plain p n
 carry-of (opposite r) inputs n = plain r n
 

@@ -11,9 +11,9 @@ use Rattle.line.specs.declared.Line.{Line}
 use Rattle.cnf.specs.Clause.{Assignment, satisfies, clauses-name}
 use Rattle.cnf.specs.Words.{clauses-of, satisfies-words, names, highest-named}
 use Rattle.product.specs.Bit.{Bit, fixed, unfixed, num, reads}
-use Rattle.product.specs.Product.{Product, last}
+use Rattle.product.specs.Product.{Product, last-or}
 use Rattle.product.specs.Renaming.{word-renamed, renaming}
-use Rattle.product.specs.Write.{words-used, clauses-written, next-free, bits-of-y, written}
+use Rattle.product.specs.Write.{words-used, clauses-written, next-free, bits-of-y}
 use Rattle.product.specs.declared.Written.{Written}
 
 -- ---- lines that are right, and their product
@@ -28,7 +28,7 @@ Lines-right (l ∷ ls) ks =
 
 -- the last line's coefficient, or 1 if there is no line
 abbrev pub lines-product : List Line → ℕ
-lines-product ls = last 1 (map (λ (l : Line). l .coefficient) ls)
+lines-product ls = last-or 1 (map (λ (l : Line). l .coefficient) ls)
 
 -- ---- the inside's general form: x is any bits over the variables below n, and n is the first free variable
 
@@ -74,7 +74,8 @@ pub record Demand-2 (c : ℕ) (x : List ℤ) (first next : ℕ) (ws entries : Li
   pub long : length values ≡ next - 1
   pub extends : take (first - 1) values ≡ before
   pub existence : satisfies-words (assignment values) ws ≡ true
-  pub uniqueness : (others : List Bool) → length others ≡ next - 1 → take (first - 1) others ≡ before → satisfies-words (assignment others) ws ≡ true → others ≡ values
+  pub uniqueness : (others : List Bool) → length others ≡ next - 1 → take (first - 1) others ≡ before
+      → satisfies-words (assignment others) ws ≡ true → others ≡ values
   pub value : entries-read (assignment values) entries ≡ c * entries-read (assignment before) x
 
 -- ---- document 01's call: x is the variables 1 to w
@@ -90,16 +91,11 @@ pub record Plain-demand-2 (c w v highest : ℕ) (ws entries : List ℤ) : Type 0
   pub long : length values ≡ highest
   pub input : number-of (take w values) ≡ v
   pub existence : satisfies-words (assignment values) ws ≡ true
-  pub uniqueness : (others : List Bool) → length others ≡ highest → number-of (take w others) ≡ v → satisfies-words (assignment others) ws ≡ true → others ≡ values
+  pub uniqueness : (others : List Bool) → length others ≡ highest → number-of (take w others) ≡ v
+      → satisfies-words (assignment others) ws ≡ true → others ≡ values
   pub value : entries-read (assignment values) entries ≡ c * v
 
 -- ---- any result of the call
-
--- an answer and the two rooms at exit as the contract of `write` tells them
-pub record Result (c w : ℕ) (x : List ℤ) (first : ℕ) (recipe : List ℕ) (bits clauses : List ℤ) (answer : Written) (bits′ clauses′ : List ℤ) : Type 0 where
-  pub answered : answer ≡ written c w x first recipe bits clauses .answer
-  pub bits-left : bits′ ≡ written c w x first recipe bits clauses .bits
-  pub clauses-left : clauses′ ≡ written c w x first recipe bits clauses .clauses
 
 -- the words and the entries that stand in the rooms at exit
 abbrev pub words-at-exit : Written → List ℤ → List ℤ
@@ -123,9 +119,10 @@ pub record Opened (x : List ℤ) (first next : ℕ) (ws : List ℤ) : Type 0 whe
   pub each : (v : ℕ) → first ≤ v → v < next → clauses-name v (clauses-of ws) ≡ true
   pub no-other : (v : ℕ) → clauses-name v (clauses-of ws) ≡ true → names v x ≡ false → (first ≤ v) × (v < next)
 
--- what a call leaves over the literals x and from first on, beside what document 01's leaves: the same with the variables renamed, distinct ones to
--- distinct ones, and the same counts
-pub record Renamed (x : List ℤ) (first : ℕ) (plain : Written) (plain-bits plain-clauses : List ℤ) (answer : Written) (bits′ clauses′ : List ℤ) : Type 0 where
+-- what a call leaves over the literals x and from first on, beside what document 01's leaves: the same with the variables renamed, distinct
+-- ones to distinct ones, and the same counts
+pub record Renamed (x : List ℤ) (first : ℕ) (plain : Written) (plain-bits plain-clauses : List ℤ) (answer : Written)
+    (bits′ clauses′ : List ℤ) : Type 0 where
   pub distinct : (u v : ℕ) → renaming x first u .variable ≡ renaming x first v .variable → u ≡ v
   pub words : words-at-exit answer clauses′ ≡ map (word-renamed (renaming x first)) (words-at-exit plain plain-clauses)
   pub entries : entries-at-exit answer bits′ ≡ map (word-renamed (renaming x first)) (entries-at-exit plain plain-bits)

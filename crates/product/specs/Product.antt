@@ -3,6 +3,7 @@ use Prim.Native.Nat.{ℕ, zero, suc, _/_}
 use mathlib.Core.List.{List, [], _∷_, map}
 use lib.IntN.{ℤ}
 use lib.ListN.{length}
+use Rattle.line.specs.Limits.{line-bytes}
 use Rattle.line.specs.Number.{twos}
 use Rattle.line.specs.declared.Line.{Line}
 use Rattle.recipe.specs.Check.{line-at}
@@ -11,9 +12,9 @@ use Rattle.cnf.specs.Words.{words}
 use Rattle.product.specs.Bit.{Bit, given, numbered, stored}
 use Rattle.product.specs.Lines.{shifted, columns, Encoded, encoded}
 
-abbrev pub last {ℓ} : {A : Type ℓ} → A → List A → A
-last d [] = d
-last d (x ∷ xs) = last x xs
+abbrev pub last-or {ℓ} : {A : Type ℓ} → A → List A → A
+last-or d [] = d
+last-or d (x ∷ xs) = last-or x xs
 
 pub record Product : Type 0 where
   pub y : List Bit
@@ -21,10 +22,10 @@ pub record Product : Type 0 where
   pub next : ℕ
 
 -- y is t zeros, then the bits of the last line, or of x if there is none
-unfoldable pub product : ℕ → List Line → List Bit → ℕ → Product
-product t lines x n =
+unfoldable pub product-made : ℕ → List Line → List Bit → ℕ → Product
+product-made t lines x n =
     let e : Encoded = encoded (columns (length x)) lines (x ∷ []) n in
-    record { y = shifted t (last [] (e .operands)); clauses = e .clauses; next = e .next }
+    record { y = shifted t (last-or [] (e .operands)); clauses = e .clauses; next = e .next }
 
 -- ---- the call: x is given literals, first the first free variable, and the lines are read off the recipe's bytes
 
@@ -34,10 +35,10 @@ lines-from recipe i zero = []
 lines-from recipe i (suc n) = line-at recipe i ∷ lines-from recipe (suc i) n
 
 abbrev pub lines-of : List ℕ → List Line
-lines-of recipe = lines-from recipe 0 (length recipe / 5)
+lines-of recipe = lines-from recipe 0 (length recipe / line-bytes)
 
 unfoldable pub product-of : ℕ → List ℤ → ℕ → List ℕ → Product
-product-of c x first recipe = product (twos c) (lines-of recipe) (given x) first
+product-of c x first recipe = product-made (twos c) (lines-of recipe) (given x) first
 
 -- document 01's call: x is the variables 1 to w
 abbrev pub plain-product-of : ℕ → ℕ → List ℕ → Product

@@ -5,21 +5,17 @@ ghost use Rattle.product.specs.Write.{written-told, counts-of};
 use line::Refusal;
 use line::Told;
 
-pub enum Written {
-    Clauses {
-        words: usize,
-        clauses: usize,
-        next: u32,
-        bits: usize,
-    },
-    Refused(Refusal),
-}
-
+// What a success counts.
 pub struct Counts {
     pub words: usize,
     pub clauses: usize,
     pub next: u32,
     pub bits: usize,
+}
+
+pub enum Written {
+    Clauses(Counts),
+    Refused(Refusal),
 }
 
 impl Written {
@@ -28,12 +24,7 @@ impl Written {
         ensures { λ r. ⌜ r ≡ written-told self ⌝ }
     {
         match self {
-            Written::Clauses {
-                words: _,
-                clauses: _,
-                next: _,
-                bits: _,
-            } => Told {
+            Written::Clauses(_) => Told {
                 number: 0,
                 line: 0,
                 value: 0,
@@ -47,17 +38,7 @@ impl Written {
         ensures { λ r. ⌜ r ≡ counts-of self ⌝ }
     {
         match self {
-            Written::Clauses {
-                words,
-                clauses,
-                next,
-                bits,
-            } => Counts {
-                words,
-                clauses,
-                next,
-                bits,
-            },
+            Written::Clauses(counts) => counts,
             Written::Refused(_) => Counts {
                 words: 0,
                 clauses: 0,

@@ -4,12 +4,12 @@ use mathlib.Core.List.{List, map}
 use Rattle.cases.specs.Table.{Pass}
 use Rattle.cases.specs.Agreed.{agreed}
 use Rattle.propagate.specs.Clause.{with-literal, reading}
-use Rattle.propagate.specs.Pass.{Outcome, passed, all-unknown, given-rest, propagated, propagated-number, clauses-read}
+use Rattle.propagate.specs.Pass.{Propagating, passed, all-unknown, given-rest, propagated, propagated-number, clauses-read}
 
 -- a case as the definition answers it
 abbrev pub answered : Pass → Pass
 answered k =
-    let o : Outcome = propagated (k .words) (k .given) (k .allowance) (k .room) in
+    let o : Propagating = propagated (k .words) (k .given) (k .allowance) (k .room) in
     record {
       words = k .words;
       given = k .given;
@@ -21,9 +21,9 @@ answered k =
     }
 
 -- every row is what the definition gives
-abbrev pub Right : List Pass → Type 0
-Right rows = map answered rows ≡ rows
+abbrev pub As-worked : List Pass → Type 0
+As-worked rows = map answered rows ≡ rows
 
-pub agreed-right : Right (agreed .propagated)
+pub agreed-right : As-worked (agreed .propagated)
 unfolding agreed with-literal reading passed all-unknown given-rest propagated
 agreed-right = refl

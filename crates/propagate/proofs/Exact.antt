@@ -1,5 +1,5 @@
--- `refused-room`: a refusal leaves the room as it came.
--- `refused-26` and `given-right`: 26 is given exactly where the room is not all unknown, or a literal is 0, beyond the room, or of a variable given before.
+-- `refused-room`: a refusal leaves the room as it came. `refused-26` and `given-right`: 26 is given exactly where the room is not all
+-- unknown, or a literal is 0, beyond the room, or of a variable given before.
 use Prim.Native.Nat.{ℕ, zero, suc, _-_, _≤_, _<_}
 use mathlib.Core.Path.{_≡_, refl, ap, _∙_, subst}
 use mathlib.Core.Logic.{_⊎_, ⊎-elim}
@@ -18,7 +18,8 @@ use Rattle.cnf.specs.Words.{named, names, Distinct-below}
 use Rattle.cnf.proofs.Extend.{or-false}
 use Rattle.cnf.proofs.Words.{names-either}
 use Rattle.propagate.specs.Clause.{wanted, value-at, reading-clause}
-use Rattle.propagate.specs.Pass.{turn-of, room-of, Outcome, on-or-stop, passed, all-unknown, not-given, Held, given-rest, settled, propagated, propagated-number}
+use Rattle.propagate.specs.Pass.{turn-of, room-of, Propagating, on-or-stop, passed, all-unknown, not-given, Held, given-rest, settled}
+use Rattle.propagate.specs.Pass.{propagated, propagated-number}
 use Rattle.propagate.specs.declared.Verdict.the-variants.{AllFalse, Sets, Passes}
 use Rattle.propagate.specs.declared.Reading.{Reading}
 use Rattle.propagate.specs.declared.Reading.the-variants.{Broken, Closed}
@@ -41,8 +42,7 @@ takes g room e =
     let a = or-false (eqb (named g) 0) (ltb (length room) (named g) || ltb (value-at room (named g)) 2) e in
     let b = or-false (ltb (length room) (named g)) (ltb (value-at room (named g)) 2) (a .1) in
     record {
-      some =
-          omega (arith, eqb-false (named g) 0 (a .0));
+      some = omega (arith, eqb-false (named g) 0 (a .0));
       inside = ltb-false (length room) (named g) (b .0);
       unknown = ltb-false (value-at room (named g)) 2 (b .1);
     }
@@ -70,8 +70,18 @@ held-unknown (g ∷ gs) room v e m =
     let room₁ : List ℕ = set room (named g - 1) (wanted g) in
     let k = held-unknown gs room₁ v (h .1) r in
     elim (ℕ-discrete v (named g)) [
-      | yes q ↦ absurd (omega (arith, k .1, ap (value-at room₁) q, getD-set-same room (named g - 1) (wanted g) 2 (omega (arith, t .some, t .inside)), wanted-le g))
-      | no q ↦ (k .0, omega (arith, k .1, getD-set-other room (named g - 1) (v - 1) (wanted g) 2 (λ z. q (omega (arith, k .0, t .some, z)))))
+      | yes q ↦ absurd
+          (omega (
+            arith,
+            k .1,
+            ap (value-at room₁) q,
+            getD-set-same room (named g - 1) (wanted g) 2 (omega (arith, t .some, t .inside)),
+            wanted-le g,
+          ))
+      | no q ↦ (
+        k .0,
+        omega (arith, k .1, getD-set-other room (named g - 1) (v - 1) (wanted g) 2 (λ z. q (omega (arith, k .0, t .some, z)))),
+      )
     ])
     (names-either v g gs m)
 
@@ -84,7 +94,13 @@ held-distinct (g ∷ gs) room e =
     let le : length room₁ ≡ length room = length-set room (named g - 1) (wanted g) in (
       t .some,
       omega (arith, t .inside),
-      not-true (names (named g) gs) (λ m. omega (arith, held-unknown gs room₁ (named g) (h .1) m .1, getD-set-same room (named g - 1) (wanted g) 2 (omega (arith, t .some, t .inside)), wanted-le g)),
+      not-true (names (named g) gs)
+          (λ m. omega (
+            arith,
+            held-unknown gs room₁ (named g) (h .1) m .1,
+            getD-set-same room (named g - 1) (wanted g) 2 (omega (arith, t .some, t .inside)),
+            wanted-le g,
+          )),
       subst (λ (k : ℕ). Distinct-below (suc k) gs) le (held-distinct gs room₁ (h .1)),
     )
 
@@ -92,7 +108,8 @@ pub distinct-held : (gs : List ℤ) (room : List ℕ) → all-unknown room ≡ t
     → given-rest gs room .held ≡ true
 distinct-held gs room u d =
     let e = unknown-room room u in
-    ap (λ (h : Held). h .held) (taken (suc (length room)) gs room d (omega arith) (λ v m. ap (λ (l : List ℕ). value-at l v) e ∙ value-unknowns (length room) v) .1 .is)
+    ap (λ (h : Held). h .held)
+    (taken (suc (length room)) gs room d (omega arith) (λ v m. ap (λ (l : List ℕ). value-at l v) e ∙ value-unknowns (length room) v) .1 .is)
 
 -- ---- 26
 
@@ -106,7 +123,8 @@ pass-not-26 (suc allowance) count (w ∷ ws) room =
     go (reading-clause room (w ∷ ws)) (λ n r. pass-not-26 allowance (suc count) (drop n (w ∷ ws)) r)
   where
     go : (r : Reading) → ((n : ℕ) (l : List ℕ) → propagated-number (passed allowance (suc count) (drop n (w ∷ ws)) l .answer) < 26)
-        → propagated-number (on-or-stop (turn-of r) (room-of r room) (λ n. passed allowance (suc count) (drop n (w ∷ ws)) (room-of r room)) .answer) < 26
+        → propagated-number
+        (on-or-stop (turn-of r) (room-of r room) (λ n. passed allowance (suc count) (drop n (w ∷ ws)) (room-of r room)) .answer) < 26
     go Broken f = omega arith
     go (Closed AllFalse n) f = omega arith
     go (Closed (Sets v value) n) f = f n (set room (v - 1) value)
@@ -118,10 +136,13 @@ settled-number came (Refused x) room = refl
 
 module _ (ws gs : List ℤ) (allowance : ℕ) (room : List ℕ) where
   by-tests : (a b : Bool) → all-unknown room ≡ a → given-rest gs room .held ≡ b
-      → propagated-number (propagated ws gs allowance room .answer) ≡ cond (a && b) (propagated-number (passed allowance 0 ws (given-rest gs room .room) .answer)) 26
+      → propagated-number (propagated ws gs allowance room .answer)
+      ≡ cond (a && b) (propagated-number (passed allowance 0 ws (given-rest gs room .room) .answer)) 26
   unfolding propagated
   by-tests true true e f =
-      rw (e, f) (ap propagated-number (settled-number room (passed allowance 0 ws (given-rest gs room .room) .answer) (passed allowance 0 ws (given-rest gs room .room) .room)))
+      rw (e, f) (ap propagated-number
+      (settled-number room (passed allowance 0 ws (given-rest gs room .room) .answer)
+      (passed allowance 0 ws (given-rest gs room .room) .room)))
   by-tests true false e f = rw (e, f)
   by-tests false b e f = rw e
 
@@ -147,7 +168,7 @@ module _ (ws gs : List ℤ) (allowance : ℕ) (room : List ℕ) where
       after (Read n) l f = absurd (let z : _≡_ {A = ℕ} 0 1 = cc in omega arith)
       after (Refused y) l f = refl
 
-      go : (b : Bool) (o : Outcome)
+      go : (b : Bool) (o : Propagating)
           → cond b (settled room (o .answer) (o .room)) (record { answer = Refused Given; room = room }) .answer ≡ Refused x
           → cond b (settled room (o .answer) (o .room)) (record { answer = Refused Given; room = room }) .room ≡ room
       go true o f = after (o .answer) (o .room) f

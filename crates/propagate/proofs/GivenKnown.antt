@@ -48,17 +48,23 @@ taken n (g ∷ gs) room d h f =
     let away : (v : ℕ) → 0 < v → (v ≡ named g → ⊥) → value-at room₁ v ≡ value-at room v =
     λ v p e. getD-set-other room (named g - 1) (v - 1) (wanted g) 2 (λ q. e (omega (arith, d .0, q))) in
     let e₁ : length room₁ ≡ length room = length-set room (named g - 1) (wanted g) in
-    let r = taken n gs room₁ (d .3) (omega arith) (λ v m. away v (names-below n gs v (d .3) m .0) (λ e. false≢true (sym (d .2) ∙ ap (λ (u : ℕ). names u gs) (sym e) ∙ m)) ∙ f v (names-later v g gs m)) in
+    let r =
+    taken n gs room₁ (d .3) (omega arith)
+    (λ v m. away v (names-below n gs v (d .3) m .0) (λ e. false≢true (sym (d .2) ∙ ap (λ (u : ℕ). names u gs) (sym e) ∙ m))
+    ∙ f v (names-later v g gs m)) in
     let q₁ : eqb (named g) 0 ≡ false = ne-eqb (named g) 0 (λ e. omega (arith, d .0)) in
     let q₂ : ltb (length room) (named g) ≡ false = le-ltb (length room) (named g) (omega (arith, d .1)) in
-    let q₃ : ltb (value-at room (named g)) 2 ≡ false = le-ltb (value-at room (named g)) 2 (omega (arith, f (named g) (names-first (named g) g gs refl))) in (
+    let q₃ : ltb (value-at room (named g)) 2 ≡ false =
+    le-ltb (value-at room (named g)) 2 (omega (arith, f (named g) (names-first (named g) g gs refl))) in (
       r .0,
       record {
         is = rw (q₁, q₂, q₃) (r .1 .is);
         long = r .1 .long ∙ e₁;
         others = λ v p m. r .1 .others v p (names-none v g gs m .1) ∙ away v p (names-none v g gs m .0);
-        true-in =
-            (r .1 .others (named g) (d .0) (d .2) ∙ getD-set-same room (named g - 1) (wanted g) 2 (omega (arith, d .0, d .1)), r .1 .true-in);
+        true-in = (
+          r .1 .others (named g) (d .0) (d .2) ∙ getD-set-same room (named g - 1) (wanted g) 2 (omega (arith, d .0, d .1)),
+          r .1 .true-in,
+        );
       },
     )
 
@@ -66,7 +72,8 @@ taken n (g ∷ gs) room d h f =
 pub given-value : (gs : List ℤ) (room : List ℕ) (v : ℕ) → True-in room gs → names v gs ≡ true → value-at room v ≤ 1
 given-value [] room v t m = absurd (false≢true m)
 given-value (g ∷ gs) room v t m =
-    ⊎-elim (λ (e : v ≡ named g). omega (arith, ap (value-at room) e, t .0, wanted-le g)) (λ r. given-value gs room v (t .1) r) (names-either v g gs m)
+    ⊎-elim (λ (e : v ≡ named g). omega (arith, ap (value-at room) e, t .0, wanted-le g)) (λ r. given-value gs room v (t .1) r)
+    (names-either v g gs m)
 
 pub value-read-off : (room : List ℕ) (v : ℕ) → value-at room v ≤ 1 → value-at room v ≡ byte (read-off room v)
 value-read-off room v h = go (value-at room v) h

@@ -11,10 +11,10 @@ use lib.Dec.{eqb}
 use lib.IntN.{ℤ, pos}
 use lib.ListN.{length, getD, drop, set, length-set}
 use lib.Seq.{drop-cons, drop-length, getD-set-same, getD-set-other}
-use borrow.Author.Tests.{eq-eqb, ne-eqb, lt-ltb, le-ltb, eqb-true}
+use borrow.Author.Tests.{eq-eqb, ne-eqb, lt-ltb, le-ltb, eqb-true, not-true, not-false}
 use Rattle.cnf.specs.Words.{named}
 use Rattle.propagate.specs.Clause.{wanted, value-at}
-use Rattle.propagate.specs.Pass.{Outcome, passed, unknowns, all-unknown, not-given, given-rest, settled, propagated}
+use Rattle.propagate.specs.Pass.{Propagating, propagating, passed, unknowns, all-unknown, not-given, given-rest, settled, propagated}
 use Rattle.line.specs.declared.Refusal.{Refusal}
 use Rattle.line.specs.declared.Refusal.the-variants.{Given}
 use Rattle.propagate.specs.declared.Propagated.{Propagated}
@@ -38,12 +38,14 @@ module _ (gs : List ℤ) (came room : List ℕ) (i : ℕ) (g : Giving gs came ro
 
   module _ (w : ℤ) (h : i < length gs) (e : w ≡ getD gs i (pos 0)) (v : ℕ) (ev : v ≡ named w) where
     giving-next : (b : Bool) → not-given w room ≡ b
-        → given-rest gs came ≡ cond b (record { held = false; room = room }) (given-rest (drop (suc i) gs) (set room (named w - 1) (wanted w)))
+        → given-rest gs came
+        ≡ cond b (record { held = false; room = room }) (given-rest (drop (suc i) gs) (set room (named w - 1) (wanted w)))
     unfolding given-rest
     giving-next b q =
         g .rest
         ∙ ap (λ (l : List ℤ). given-rest l room) (drop-cons gs i (pos 0) h ∙ ap (λ (z : ℤ). z ∷ drop (suc i) gs) (sym e))
-        ∙ ap (λ (t : Bool). cond t (record { held = false; room = room }) (given-rest (drop (suc i) gs) (set room (named w - 1) (wanted w)))) q
+        ∙ ap (λ (t : Bool). cond t (record { held = false; room = room })
+        (given-rest (drop (suc i) gs) (set room (named w - 1) (wanted w)))) q
 
     pub giving-zero : v ≡ 0 → given-rest gs came ≡ record { held = false; room = room }
     giving-zero z = giving-next true (simp (eq-eqb (named w) 0 (sym ev ∙ z)))
@@ -72,7 +74,8 @@ module _ (gs : List ℤ) (came room : List ℕ) (i : ℕ) (g : Giving gs came ro
               within = omega arith;
               long = length-set room (v - 1) wants ∙ g .long;
               rest = giving-next false (rw (a, b, d))
-                  ∙ ap₂ (λ (n : ℕ) (r : List ℕ). given-rest (drop n gs) r) (sym (add-one i)) (ap₂ (λ (n m : ℕ). set room (n - 1) m) (sym ev) (sym ew));
+                  ∙ ap₂ (λ (n : ℕ) (r : List ℕ). given-rest (drop n gs) r) (sym (add-one i))
+                  (ap₂ (λ (n m : ℕ). set room (n - 1) m) (sym ev) (sym ew));
             }
 
 -- ---- a room without a value
@@ -99,7 +102,9 @@ module _ (room : List ℕ) (i : ℕ) (l : Looking room i) where
   pub looking-on : i < length room → getD room i 0 ≡ 2 → Looking room (i + 1)
   looking-on h e = record {
     within = omega arith;
-    rest = looking-next h ∙ ap (λ (b : Bool). b && all-unknown (drop (suc i) room)) (eq-eqb (getD room i 0) 2 e) ∙ ap (λ (k : ℕ). all-unknown (drop k room)) (sym (add-one i));
+    rest =
+        looking-next h ∙ ap (λ (b : Bool). b && all-unknown (drop (suc i) room)) (eq-eqb (getD room i 0) 2 e)
+        ∙ ap (λ (k : ℕ). all-unknown (drop k room)) (sym (add-one i));
   }
 
 pub unknown-room : (room : List ℕ) → all-unknown room ≡ true → room ≡ unknowns (length room)
@@ -141,54 +146,39 @@ forgetting-ends came room i f h = all-two room (λ k l. f .gone k (omega arith))
 
 -- ---- the call
 
-not-true : (b : Bool) → not b ≡ true → b ≡ false
-not-true true e = sym e
-not-true false e = refl
-
-not-false : (b : Bool) → not b ≡ false → b ≡ true
-not-false true e = refl
-not-false false e = sym e
-
 module _ (ws gs : List ℤ) (allowance : ℕ) (room : List ℕ) where
-  abbrev call : Outcome
+  abbrev call : Propagating
   call = propagated ws gs allowance room
 
-  -- any outcome that the call equals, by its parts
-  parts : (a : Propagated) (r : List ℕ) → call ≡ record { answer = a; room = r } → (a ≡ call .answer) × (r ≡ call .room)
-  parts a r q = (sym (ap (λ (o : Outcome). o .answer) q), sym (ap (λ (o : Outcome). o .room) q))
-
   module _ (b : Bool) (eb : b ≡ all-unknown room) where
-    pub call-some-value : not b ≡ true → (Refused Given ≡ call .answer) × (room ≡ call .room)
+    pub call-some-value : not b ≡ true → propagating (Refused Given) room ≡ call
     unfolding propagated
-    call-some-value f = parts (Refused Given) room (rw (sym eb ∙ not-true b f))
+    call-some-value f = rw (sym eb ∙ not-true b f)
 
     -- behind the first test; h says whether the literals were taken, and they left room₁
-    module _ (fb : not b ≡ false) (h : Bool) (eh : h ≡ given-rest gs room .held) (room₁ : List ℕ) (e₁ : room₁ ≡ given-rest gs room .room) (long : length room₁ ≡ length room) where
+    module _ (fb : not b ≡ false) (h : Bool) (eh : h ≡ given-rest gs room .held) (room₁ : List ℕ) (e₁ : room₁ ≡ given-rest gs room .room)
+        (long : length room₁ ≡ length room) where
       forgotten : (r s : List ℕ) → r ≡ unknowns (length s) → length s ≡ length room → room ≡ r
       forgotten r s e l = unknown-room room (sym eb ∙ not-false b fb) ∙ ap unknowns (sym l) ∙ sym e
 
-      pub call-not-given : not h ≡ true → (r : List ℕ) → r ≡ unknowns (length room₁) → (Refused Given ≡ call .answer) × (r ≡ call .room)
+      pub call-not-given : not h ≡ true → (r : List ℕ) → r ≡ unknowns (length room₁) → propagating (Refused Given) r ≡ call
       unfolding propagated
       call-not-given f r er =
-          let q : call ≡ record { answer = Refused Given; room = room } = rw (sym eb ∙ not-false b fb, sym eh ∙ not-true h f) in
-          parts (Refused Given) r (q ∙ ap (λ (l : List ℕ). record { answer = Refused Given; room = l }) (forgotten r room₁ er long))
+          let q : call ≡ propagating (Refused Given) room = rw (sym eb ∙ not-false b fb, sym eh ∙ not-true h f) in
+          sym (q ∙ ap (propagating (Refused Given)) (forgotten r room₁ er long))
 
-      module _ (fh : not h ≡ false) (a : Propagated) (ea : a ≡ passed allowance 0 ws room₁ .answer) (room₂ : List ℕ) (e₂ : room₂ ≡ passed allowance 0 ws room₁ .room) (long₂ : length room₂ ≡ length room₁) where
+      module _ (fh : not h ≡ false) (a : Propagated) (room₂ : List ℕ) (e₂ : propagating a room₂ ≡ passed allowance 0 ws room₁)
+          (long₂ : length room₂ ≡ length room₁) where
         call-is : call ≡ settled room a room₂
         unfolding propagated
         call-is =
-            let q : call ≡ settled room (passed allowance 0 ws (given-rest gs room .room) .answer) (passed allowance 0 ws (given-rest gs room .room) .room) =
-            rw (sym eb ∙ not-false b fb, sym eh ∙ not-false h fh) in
-            q
-            ∙ ap (λ (r : List ℕ). settled room (passed allowance 0 ws r .answer) (passed allowance 0 ws r .room)) (sym e₁)
-            ∙ ap₂ (λ (x : Propagated) (r : List ℕ). settled room x r) (sym ea) (sym e₂)
+            let by : Propagating → Propagating = λ (o : Propagating). settled room (o .answer) (o .room) in
+            let q : call ≡ by (passed allowance 0 ws (given-rest gs room .room)) = rw (sym eb ∙ not-false b fb, sym eh ∙ not-false h fh) in
+            q ∙ ap (λ (r : List ℕ). by (passed allowance 0 ws r)) (sym e₁) ∙ ap by (sym e₂)
 
-        pub call-read : (n : ℕ) → a ≡ Read n → (a ≡ call .answer) × (room₂ ≡ call .room)
-        call-read n e =
-            parts a room₂ (call-is ∙ ap (λ (x : Propagated). settled room x room₂) e ∙ ap (λ (x : Propagated). record { answer = x; room = room₂ }) (sym e))
+        pub call-read : (n : ℕ) → a ≡ Read n → propagating a room₂ ≡ call
+        call-read n e = ap (λ (x : Propagated). propagating x room₂) e ∙ sym (call-is ∙ ap (λ (x : Propagated). settled room x room₂) e)
 
-        pub call-refused : (x : Refusal) → a ≡ Refused x → (r : List ℕ) → r ≡ unknowns (length room₂)
-            → (a ≡ call .answer) × (r ≡ call .room)
+        pub call-refused : (x : Refusal) → a ≡ Refused x → (r : List ℕ) → r ≡ unknowns (length room₂) → propagating a r ≡ call
         call-refused x e r er =
-            parts a r
-            (call-is ∙ ap (λ (y : Propagated). settled room y room₂) e ∙ ap₂ (λ (y : Propagated) (l : List ℕ). record { answer = y; room = l }) (sym e) (forgotten r room₂ er (long₂ ∙ long)))
+            ap₂ propagating e (sym (forgotten r room₂ er (long₂ ∙ long))) ∙ sym (call-is ∙ ap (λ (y : Propagated). settled room y room₂) e)

@@ -114,7 +114,8 @@ passed-nil (suc allowance) count room = refl
 
 -- a clause, where words are left
 pub passed-clause : (allowance count : ℕ) (ws : List ℤ) (room : List ℕ) → (ws ≡ [] → ⊥) → let r = reading-clause room ws in
-    passed (suc allowance) count ws room ≡ on-or-stop (turn-of r) (room-of r room) (λ n. passed allowance (suc count) (drop n ws) (room-of r room))
+    passed (suc allowance) count ws room
+    ≡ on-or-stop (turn-of r) (room-of r room) (λ n. passed allowance (suc count) (drop n ws) (room-of r room))
 unfolding passed
 passed-clause allowance count [] room h = absurd (h refl)
 passed-clause allowance count (w ∷ ws) room h = refl
@@ -148,30 +149,43 @@ module _ (ws : List ℤ) (allowance : ℕ) (came room : List ℕ) (at spent : �
 
     module _ (g : spent ≡ allowance → ⊥) where
       passing-clause : let r = reading-clause room (drop at ws) in
-          passed allowance 0 ws came ≡ on-or-stop (turn-of r) (room-of r room) (λ n. passed (allowance - (spent + 1)) (suc spent) (drop n (drop at ws)) (room-of r room))
+          passed allowance 0 ws came
+          ≡ on-or-stop (turn-of r) (room-of r room)
+          (λ n. passed (allowance - (spent + 1)) (suc spent) (drop n (drop at ws)) (room-of r room))
       passing-clause =
           let z : allowance - spent ≡ suc (allowance - (spent + 1)) = omega (arith, g, p .allowed) in
           p .rest ∙ ap (λ (a : ℕ). passed a spent (drop at ws) room) z
-          ∙ passed-clause (allowance - (spent + 1)) spent (drop at ws) room (λ e. let f = some-left in let z : _≡_ {A = ℕ} 0 1 = cc in omega arith)
+          ∙ passed-clause (allowance - (spent + 1)) spent (drop at ws) room
+          (λ e. let f = some-left in let z : _≡_ {A = ℕ} 0 1 = cc in omega arith)
 
       -- the turn and the room behind the clause, as they are found
-      module _ (part : List ℤ) (ep : part ≡ drop at ws) (t : Turn) (et : t ≡ turn-of (reading-clause room part)) (room′ : List ℕ) (er : room′ ≡ room-of (reading-clause room part) room) where
-        passing-turn : passed allowance 0 ws came ≡ on-or-stop t room′ (λ n. passed (allowance - (spent + 1)) (suc spent) (drop n (drop at ws)) room′)
+      module _ (part : List ℤ) (ep : part ≡ drop at ws) (t : Turn) (et : t ≡ turn-of (reading-clause room part)) (room′ : List ℕ)
+          (er : room′ ≡ room-of (reading-clause room part) room) where
+        passing-turn : passed allowance 0 ws came
+            ≡ on-or-stop t room′ (λ n. passed (allowance - (spent + 1)) (suc spent) (drop n (drop at ws)) room′)
         passing-turn =
             let q : reading-clause room (drop at ws) ≡ reading-clause room part = ap (reading-clause room) (sym ep) in
             passing-clause
-            ∙ ap₂ (λ (u : Turn) (l : List ℕ). on-or-stop u l (λ n. passed (allowance - (spent + 1)) (suc spent) (drop n (drop at ws)) l)) (ap turn-of q ∙ sym et) (ap (λ (r : Reading). room-of r room) q ∙ sym er)
+            ∙ ap₂ (λ (u : Turn) (l : List ℕ). on-or-stop u l (λ n. passed (allowance - (spent + 1)) (suc spent) (drop n (drop at ws)) l))
+            (ap turn-of q ∙ sym et) (ap (λ (r : Reading). room-of r room) q ∙ sym er)
 
         pub passing-long : length room′ ≡ length came
         passing-long = ap length er ∙ length-room-of (reading-clause room part) room ∙ p .long
 
         pub passing-stops : (x : Refusal) → t ≡ Stop x → passed allowance 0 ws came ≡ record { answer = Refused x; room = room′ }
         passing-stops x e =
-            passing-turn ∙ ap (λ (u : Turn). on-or-stop u room′ (λ n. passed (allowance - (spent + 1)) (suc spent) (drop n (drop at ws)) room′)) e
+            passing-turn
+            ∙ ap (λ (u : Turn). on-or-stop u room′ (λ n. passed (allowance - (spent + 1)) (suc spent) (drop n (drop at ws)) room′)) e
 
         pub turn-fits : (n : ℕ) → t ≡ On n → at + n ≤ length ws
         turn-fits n e =
-            omega (arith, turn-inside (length room) (0 + length part) n (reading-clause room part) (inside room part) (sym et ∙ e), ap length ep, length-drop at ws, p .within)
+            omega (
+              arith,
+              turn-inside (length room) (0 + length part) n (reading-clause room part) (inside room part) (sym et ∙ e),
+              ap length ep,
+              length-drop at ws,
+              p .within,
+            )
 
         pub passing-on : (n : ℕ) → t ≡ On n → Passing ws allowance came room′ (at + n) (spent + 1)
         passing-on n e = record {

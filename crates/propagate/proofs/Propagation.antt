@@ -1,8 +1,8 @@
--- One pass over the words of clauses that open variables step by step (crates/cnf, Extend), with the variables below the first of them given,
--- reads every clause, sets every variable opened, and leaves a room that satisfies all clauses (`sets-all`).
+-- One pass over the words of clauses that open variables step by step (crates/cnf, Extend), with the variables below the first of them
+-- given, reads every clause, sets every variable opened, and leaves a room that satisfies all clauses (`sets-all`).
 --
--- The variables that may stand in the clauses are those that are given, all below n, and those from n on. So it holds where n is w + 1 and the
--- variables 1 to w are given, and where given are some variables below any first free number.
+-- The variables that may stand in the clauses are those that are given, all below n, and those from n on. So it holds where n is w + 1 and
+-- the variables 1 to w are given, and where given are some variables below any first free number.
 use Prim.Native.Nat.{ℕ, zero, suc, _+_, _-_, _≤_, _<_}
 use mathlib.Core.Path.{_≡_, refl, sym, ap, ap₂, _∙_, subst}
 use mathlib.Core.Logic.{inl, inr, ⊎-elim}
@@ -18,7 +18,7 @@ use Rattle.cnf.specs.Words.{named, names, Distinct-below, words}
 use Rattle.cnf.proofs.Words.{names-below, names-first, names-later}
 use Rattle.cnf.proofs.Extend.{Agree, Extends, satisfies-local}
 use Rattle.propagate.specs.Clause.{byte, value-at}
-use Rattle.propagate.specs.Pass.{Outcome, passed, unknowns, all-unknown, Held, given-rest, propagated}
+use Rattle.propagate.specs.Pass.{Propagating, passed, unknowns, all-unknown, Held, given-rest, propagated}
 use Rattle.propagate.specs.Promise.{read-off, True-in, Given-or-new, Sets-all}
 use Rattle.propagate.specs.declared.Propagated.the-variants.{Read}
 use Rattle.propagate.proofs.Literals.{byte-le, not-true}
@@ -89,7 +89,8 @@ module _ (n : ℕ) (p : 0 < n) (gs : List ℤ) (d : Distinct-below n gs) where
           read = refl;
           long = r .long ∙ t .long;
           holds = still-true gs room₁ (r .room′)
-              (λ v m. let l = names-below n gs v d m .1 in r .knows .below v (inl m) (omega (arith, l, e .grows)) ∙ sym (k .below v (inl m) l))
+              (λ v m. let l = names-below n gs v d m .1 in
+              r .knows .below v (inl m) (omega (arith, l, e .grows)) ∙ sym (k .below v (inl m) l))
               (t .true-in);
           set = λ v l h. omega (arith, r .knows .below v (inr l) h, byte-le (β v));
           rest = r .knows .above;
@@ -105,13 +106,17 @@ module _ (n : ℕ) (p : 0 < n) (gs : List ℤ) (d : Distinct-below n gs) where
     sets-unknowns allowance m ha hm =
         let t = taken n gs (unknowns m) d (omega (arith, e .grows, length-unknowns m)) (λ v _. value-unknowns m v) in
         let b = e .exists (read-off (t .0)) in
-        let k = knows-same (read-off (t .0)) (b .0) (t .0) (b .1) (given-known (unknowns m) (t .0) (given-rest gs (unknowns m)) (value-unknowns m) (t .1)) in
+        let k =
+        knows-same (read-off (t .0)) (b .0) (t .0) (b .1)
+        (given-known (unknowns m) (t .0) (given-rest gs (unknowns m)) (value-unknowns m) (t .1)) in
         let r = extends-set Used positive n next cs (b .0) (t .0) e (omega (arith, t .1 .long, length-unknowns m)) k (b .2) in
-        subst (λ (z : Outcome). Sets-all n next cs gs (unknowns m) z)
-        (sym (call-reads (words cs) gs allowance m (length cs) (t .0) (r .room′) (t .1 .is) (pass-over-all (t .0) (r .room′) cs allowance (r .over) ha)))
+        subst (λ (z : Propagating). Sets-all n next cs gs (unknowns m) z)
+        (sym (call-reads (words cs) gs allowance m (length cs) (t .0) (r .room′) (t .1 .is)
+        (pass-over-all (t .0) (r .room′) cs allowance (r .over) ha)))
         (promise (unknowns m) (t .0) (given-rest gs (unknowns m)) (t .1) (b .0) k (b .2) r)
 
     pub sets-all : (allowance : ℕ) (room : List ℕ) → all-unknown room ≡ true → length cs ≤ allowance → next ≤ suc (length room)
         → Sets-all n next cs gs room (propagated (words cs) gs allowance room)
     sets-all allowance room u ha hm =
-        subst (λ (r : List ℕ). Sets-all n next cs gs r (propagated (words cs) gs allowance r)) (sym (unknown-room room u)) (sets-unknowns allowance (length room) ha hm)
+        subst (λ (r : List ℕ). Sets-all n next cs gs r (propagated (words cs) gs allowance r)) (sym (unknown-room room u))
+        (sets-unknowns allowance (length room) ha hm)

@@ -27,7 +27,8 @@ reading-closed room d n (negsuc v) ws e = absurd (omega arith)
 
 -- a literal
 reading-literal : (room : List ℕ) (d : Verdict) (n : ℕ) (w : ℤ) (ws : List ℤ) → (named w ≡ 0 → ⊥)
-    → reading room d n (w ∷ ws) ≡ unless-above (ltb (length room) (named w)) (reading room (with-literal d (named w) (wanted w) (value-at room (named w))) (suc n) ws)
+    → reading room d n (w ∷ ws)
+    ≡ unless-above (ltb (length room) (named w)) (reading room (with-literal d (named w) (wanted w) (value-at room (named w))) (suc n) ws)
 unfolding reading
 reading-literal room d n (pos zero) ws f = absurd (f refl)
 reading-literal room d n (pos (suc v)) ws f = refl
@@ -36,13 +37,15 @@ reading-literal room d n (negsuc v) ws f = refl
 pub reading-above : (room : List ℕ) (d : Verdict) (n : ℕ) (w : ℤ) (ws : List ℤ) → length room < named w → reading room d n (w ∷ ws) ≡ Broken
 reading-above room d n w ws h =
     reading-literal room d n w ws (λ e. omega arith)
-    ∙ ap (λ (b : Bool). unless-above b (reading room (with-literal d (named w) (wanted w) (value-at room (named w))) (suc n) ws)) (lt-ltb (length room) (named w) h)
+    ∙ ap (λ (b : Bool). unless-above b (reading room (with-literal d (named w) (wanted w) (value-at room (named w))) (suc n) ws))
+    (lt-ltb (length room) (named w) h)
 
 pub reading-on : (room : List ℕ) (d : Verdict) (n : ℕ) (w : ℤ) (ws : List ℤ) → (named w ≡ 0 → ⊥) → named w ≤ length room
     → reading room d n (w ∷ ws) ≡ reading room (with-literal d (named w) (wanted w) (value-at room (named w))) (suc n) ws
 reading-on room d n w ws f h =
     reading-literal room d n w ws f
-    ∙ ap (λ (b : Bool). unless-above b (reading room (with-literal d (named w) (wanted w) (value-at room (named w))) (suc n) ws)) (le-ltb (length room) (named w) h)
+    ∙ ap (λ (b : Bool). unless-above b (reading room (with-literal d (named w) (wanted w) (value-at room (named w))) (suc n) ws))
+    (le-ltb (length room) (named w) h)
 
 -- inside a list the value past its end does not matter
 pub getD-inside : (l : List ℕ) (i a b : ℕ) → i < length l → getD l i a ≡ getD l i b

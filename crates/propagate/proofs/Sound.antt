@@ -19,7 +19,8 @@ use Rattle.cnf.specs.Clause.{Literal, Clause, Assignment, flips, value, holds, 
 use Rattle.cnf.specs.Words.{named, clauses-from, clauses-of, satisfies-words}
 use Rattle.cnf.proofs.Extend.{and-left, and-right, or-true}
 use Rattle.propagate.specs.Clause.{byte, wanted, value-at, with-unknown, with-literal, unless-above, reading, reading-clause}
-use Rattle.propagate.specs.Pass.{turn-of, room-of, Outcome, on-or-stop, passed, all-unknown, not-given, given-rest, settled, propagated, propagated-number}
+use Rattle.propagate.specs.Pass.{turn-of, room-of, Propagating, on-or-stop, passed, all-unknown, not-given, given-rest, settled}
+use Rattle.propagate.specs.Pass.{propagated, propagated-number}
 use Rattle.propagate.specs.Promise.{read-off, Given-true, Agrees}
 use Rattle.propagate.specs.declared.Verdict.{Verdict}
 use Rattle.propagate.specs.declared.Verdict.the-variants.{AllFalse, Sets, Passes}
@@ -77,18 +78,21 @@ module _ (α : Assignment) (room : List ℕ) (a : Agrees α room) (v : ℕ) (p :
   unfolding Means lit
   means-false AllFalse c f m = holds-snoc α c (lit v s) ∙ or-falses (holds α c) (flips s (α v)) m f
   means-false (Sets u b) c f m = λ h.
-      ⊎-elim m (λ (e : flips s (α v) ≡ true). absurd (false≢true (sym f ∙ e))) (or-true (holds α c) (flips s (α v)) (sym (holds-snoc α c (lit v s)) ∙ h))
+      ⊎-elim m (λ (e : flips s (α v) ≡ true). absurd (false≢true (sym f ∙ e)))
+      (or-true (holds α c) (flips s (α v)) (sym (holds-snoc α c (lit v s)) ∙ h))
   means-false Passes c f m = tt
 
   means-unknown : (d : Verdict) (c : Clause) → Means α d c → Means α (with-unknown d v (byte (not s))) (c ++ (lit v s ∷ []))
   unfolding Means lit
   means-unknown AllFalse c m = λ h.
-      ⊎-elim (λ (e : holds α c ≡ true). absurd (false≢true (sym m ∙ e))) (λ (e : flips s (α v) ≡ true). true-wants s (α v) e) (or-true (holds α c) (flips s (α v)) (sym (holds-snoc α c (lit v s)) ∙ h))
+      ⊎-elim (λ (e : holds α c ≡ true). absurd (false≢true (sym m ∙ e))) (λ (e : flips s (α v) ≡ true). true-wants s (α v) e)
+      (or-true (holds α c) (flips s (α v)) (sym (holds-snoc α c (lit v s)) ∙ h))
   means-unknown (Sets u b) c m = go (eqb u v) (eqb b (byte (not s))) refl refl
     where
       go : (x y : Bool) → eqb u v ≡ x → eqb b (byte (not s)) ≡ y → Means α (cond (x && y) (Sets u b) Passes) (c ++ (lit v s ∷ []))
       go true true ex ey = λ h.
-          ⊎-elim m (λ (e : flips s (α v) ≡ true). ap (λ (w : ℕ). byte (α w)) (eqb-true u v ex) ∙ true-wants s (α v) e ∙ sym (eqb-true b (byte (not s)) ey))
+          ⊎-elim m (λ (e : flips s (α v) ≡ true). ap (λ (w : ℕ). byte (α w)) (eqb-true u v ex) ∙ true-wants s (α v) e
+          ∙ sym (eqb-true b (byte (not s)) ey))
           (or-true (holds α c) (flips s (α v)) (sym (holds-snoc α c (lit v s)) ∙ h))
       go true false ex ey = tt
       go false y ex ey = tt
@@ -103,7 +107,8 @@ module _ (α : Assignment) (room : List ℕ) (a : Agrees α room) (v : ℕ) (p :
           → Means α (cond x Passes (cond y d (with-unknown d v (byte (not s))))) (c ++ (lit v s ∷ []))
       go true ex y ey = tt
       go false ex true ey =
-          means-false d c (false-wants s (α v) (λ e. eqb-false (value-at room v) (byte (not s)) ex (a v p (ltb-true (value-at room v) 2 ey) ∙ e))) m
+          means-false d c
+          (false-wants s (α v) (λ e. eqb-false (value-at room v) (byte (not s)) ex (a v p (ltb-true (value-at room v) 2 ey) ∙ e))) m
       go false ex false ey = means-unknown d c m
 
 -- what the meanings give
@@ -141,11 +146,12 @@ first α room a d₀ c j (pos zero ∷ ws) d k m e =
     record { clause = c; taken = 0; words-are = sym f ∙ omega arith; clauses-are = refl; means = subst (λ (x : Verdict). Means α x c) q m }
 first α room a d₀ c j (pos (suc v) ∷ ws) d k m e =
     let l : Literal = lit (suc v) false in
-    let r = first α room a (with-literal d₀ (suc v) 1 (value-at room (suc v))) (c ++ (l ∷ [])) (suc j) ws d k (means-literal α room a (suc v) (omega arith) false d₀ c m)
+    let r =
+    first α room a (with-literal d₀ (suc v) 1 (value-at room (suc v))) (c ++ (l ∷ [])) (suc j) ws d k
+    (means-literal α room a (suc v) (omega arith) false d₀ c m)
     (unless-closed (length room) (suc v) (reading room (with-literal d₀ (suc v) 1 (value-at room (suc v))) (suc j) ws) d k e) in
     record {
-      clause =
-          r .clause;
+      clause = r .clause;
       taken = suc (r .taken);
       words-are = r .words-are ∙ omega arith;
       clauses-are = r .clauses-are;
@@ -153,11 +159,12 @@ first α room a d₀ c j (pos (suc v) ∷ ws) d k m e =
     }
 first α room a d₀ c j (negsuc v ∷ ws) d k m e =
     let l : Literal = lit (suc v) true in
-    let r = first α room a (with-literal d₀ (suc v) 0 (value-at room (suc v))) (c ++ (l ∷ [])) (suc j) ws d k (means-literal α room a (suc v) (omega arith) true d₀ c m)
+    let r =
+    first α room a (with-literal d₀ (suc v) 0 (value-at room (suc v))) (c ++ (l ∷ [])) (suc j) ws d k
+    (means-literal α room a (suc v) (omega arith) true d₀ c m)
     (unless-closed (length room) (suc v) (reading room (with-literal d₀ (suc v) 0 (value-at room (suc v))) (suc j) ws) d k e) in
     record {
-      clause =
-          r .clause;
+      clause = r .clause;
       taken = suc (r .taken);
       words-are = r .words-are ∙ omega arith;
       clauses-are = r .clauses-are;
@@ -179,11 +186,12 @@ agrees-set : (α : Assignment) (room : List ℕ) (v b : ℕ) → Agrees α room 
     → Agrees α (set room (v - 1) b)
 agrees-set α room v b a e p l u q h =
     elim (ℕ-discrete u v) [
-      | yes f ↦ ap (value-at (set room (v - 1) b)) f ∙ getD-set-same room (v - 1) b 2 (omega arith) ∙ sym e ∙ ap (λ (w : ℕ). byte (α w)) (sym f)
+      | yes f ↦ ap (value-at (set room (v - 1) b)) f ∙ getD-set-same room (v - 1) b 2 (omega arith) ∙ sym e
+          ∙ ap (λ (w : ℕ). byte (α w)) (sym f)
       | no f ↦ let g = getD-set-other room (v - 1) (u - 1) b 2 (λ z. f (omega (arith, q, p, z))) in g ∙ a u q (omega (arith, g))
     ]
 
-pub record Sound (α : Assignment) (o : Outcome) : Type 0 where
+pub record Sound (α : Assignment) (o : Propagating) : Type 0 where
   pub agrees : Agrees α (o .room)
   pub no-conflict : propagated-number (o .answer) ≡ 22 → ⊥
 
@@ -201,16 +209,22 @@ pass-sound α (suc allowance) count (w ∷ ws) room a t =
         → (c : Clause) × (holds α c ≡ true) × Means α d c × (satisfies α (clauses-of (drop n (w ∷ ws))) ≡ true)
     holds-first d n e =
         let f = first-of α room (w ∷ ws) d n a e in
-        let q : holds α (f .0) && satisfies α (clauses-of (drop n (w ∷ ws))) ≡ true = sym (ap (satisfies α) (f .1)) ∙ t in
-        (f .0, and-left (holds α (f .0)) (satisfies α (clauses-of (drop n (w ∷ ws)))) q, f .2, and-right (holds α (f .0)) (satisfies α (clauses-of (drop n (w ∷ ws)))) q)
+        let q : holds α (f .0) && satisfies α (clauses-of (drop n (w ∷ ws))) ≡ true = sym (ap (satisfies α) (f .1)) ∙ t in (
+          f .0,
+          and-left (holds α (f .0)) (satisfies α (clauses-of (drop n (w ∷ ws)))) q,
+          f .2,
+          and-right (holds α (f .0)) (satisfies α (clauses-of (drop n (w ∷ ws)))) q,
+        )
 
     go : (r : Reading) → reading-clause room (w ∷ ws) ≡ r → Read-inside (length room) (0 + length (w ∷ ws)) r
-        → ((n : ℕ) (l : List ℕ) → Agrees α l → satisfies α (clauses-of (drop n (w ∷ ws))) ≡ true → Sound α (passed allowance (suc count) (drop n (w ∷ ws)) l))
+        → ((n : ℕ) (l : List ℕ) → Agrees α l → satisfies α (clauses-of (drop n (w ∷ ws))) ≡ true
+        → Sound α (passed allowance (suc count) (drop n (w ∷ ws)) l))
         → Sound α (on-or-stop (turn-of r) (room-of r room) (λ n. passed allowance (suc count) (drop n (w ∷ ws)) (room-of r room)))
     go Broken e i f = record { agrees = a; no-conflict = λ z. omega arith }
     go (Closed AllFalse n) e i f = let h = holds-first AllFalse n e in absurd (false≢true (sym (never α (h .0) (h .2)) ∙ h .1))
     go (Closed (Sets v b) n) e i f =
-        let h = holds-first (Sets v b) n e in f n (set room (v - 1) b) (agrees-set α room v b a (forced α (h .0) v b (h .2) (h .1)) (i .0 .0) (i .0 .1)) (h .3)
+        let h = holds-first (Sets v b) n e in
+        f n (set room (v - 1) b) (agrees-set α room v b a (forced α (h .0) v b (h .2) (h .1)) (i .0 .0) (i .0 .1)) (h .3)
     go (Closed Passes n) e i f = let h = holds-first Passes n e in f n room a (h .3)
 
 -- ---- the call
@@ -226,7 +240,8 @@ given-sound α (g ∷ gs) room a t = go (not-given g room) refl (λ b. given-sou
     go true e f = a
     go false e f = let k = takes g room e in f (agrees-set α room (named g) (wanted g) a (wanted-true α g (t .0)) (k .some) (k .inside))
 
-settled-sound : (α : Assignment) (came : List ℕ) (o : Outcome) → Agrees α came → Sound α o → Sound α (settled came (o .answer) (o .room))
+settled-sound : (α : Assignment) (came : List ℕ) (o : Propagating) → Agrees α came → Sound α o
+    → Sound α (settled came (o .answer) (o .room))
 settled-sound α came o a s = go (o .answer) (s .no-conflict)
   where
     go : (x : Propagated) → (propagated-number x ≡ 22 → ⊥) → Sound α (settled came x (o .room))
@@ -242,7 +257,7 @@ sound ws gs allowance room u α t h =
     let s = pass-sound α allowance 0 ws (given-rest gs room .room) (given-sound α gs room a t) h in
     go (all-unknown room && given-rest gs room .held) (settled-sound α room (passed allowance 0 ws (given-rest gs room .room)) a s) a
   where
-    go : (b : Bool) {o : Outcome} → Sound α o → Agrees α room → Sound α (cond b o (record { answer = Refused Given; room = room }))
+    go : (b : Bool) {o : Propagating} → Sound α o → Agrees α room → Sound α (cond b o (record { answer = Refused Given; room = room }))
     go true s a = s
     go false s a = record { agrees = a; no-conflict = λ z. omega arith }
 
@@ -264,7 +279,8 @@ pass-count (suc allowance) count (w ∷ ws) room n e =
         omega (arith, f, ap length (r .1))
 
     go : (r : Reading) → reading-clause room (w ∷ ws) ≡ r
-        → ((k : ℕ) (l : List ℕ) → passed allowance (suc count) (drop k (w ∷ ws)) l .answer ≡ Read n → n ≡ suc count + length (clauses-of (drop k (w ∷ ws))))
+        → ((k : ℕ) (l : List ℕ) → passed allowance (suc count) (drop k (w ∷ ws)) l .answer ≡ Read n
+        → n ≡ suc count + length (clauses-of (drop k (w ∷ ws))))
         → on-or-stop (turn-of r) (room-of r room) (λ k. passed allowance (suc count) (drop k (w ∷ ws)) (room-of r room)) .answer ≡ Read n
         → n ≡ count + length (clauses-of (w ∷ ws))
     go Broken q f h = absurd (let z : _≡_ {A = ℕ} 0 1 = cc in omega arith)
@@ -278,7 +294,7 @@ unfolding propagated
 count-read ws gs allowance room n e =
     go (all-unknown room && given-rest gs room .held) e
   where
-    o : Outcome
+    o : Propagating
     o = passed allowance 0 ws (given-rest gs room .room)
 
     after : (a : Propagated) → o .answer ≡ a → settled room a (o .room) .answer ≡ Read n → n ≡ length (clauses-of ws)

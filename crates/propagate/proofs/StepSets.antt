@@ -14,12 +14,14 @@ use lib.ListN.{length, set, length-set}
 use lib.Seq.{getD-set-same, getD-set-other}
 use Rattle.cnf.specs.Clause.{Literal, Clause, Assignment, value, holds, satisfies}
 use Rattle.cnf.specs.Words.{From-1}
-use Rattle.cnf.proofs.Extend.{and-left, and-right, and-both, not-itself, joined, put, put-same, put-other, eq-of-beq, Agree, Within, Literals, value-local, Shape, Shapes, shape-literals, Step, Steps, Extends, satisfies-left, satisfies-right}
+use Rattle.cnf.proofs.Extend.{and-left, and-right, and-both, not-itself, joined, put, put-same, put-other, eq-of-beq, Agree, Within}
+use Rattle.cnf.proofs.Extend.{Literals, value-local, Shape, Shapes, shape-literals, Step, Steps, Extends, satisfies-left, satisfies-right}
 use Rattle.propagate.specs.Clause.{byte, value-at, with-literal}
 use Rattle.propagate.specs.declared.Verdict.{Verdict}
 use Rattle.propagate.specs.declared.Verdict.the-variants.{AllFalse, Sets, Passes}
 use Rattle.propagate.proofs.Literals.{value-of-true}
-use Rattle.propagate.proofs.Verdicts.{verdict, literal-seen, Passes-over, over-none, over-append, over-passed, over-set, with-known, with-first-unknown, verdict-passes}
+use Rattle.propagate.proofs.Verdicts.{verdict, literal-seen, Passes-over, over-none, over-append, over-passed, over-set, with-known}
+use Rattle.propagate.proofs.Verdicts.{with-first-unknown, verdict-passes}
 
 module _ (Used : ℕ → Type 0) (positive : (v : ℕ) → Used v → 0 < v) where
   -- the room knows the values of α below n, and none from n on
@@ -38,7 +40,8 @@ module _ (Used : ℕ → Type 0) (positive : (v : ℕ) → Used v → 0 < v) whe
   seen-known : (n : ℕ) (α : Assignment) (room : List ℕ) (d : Verdict) (l : Literal) → Knows n α room → Within Used n l
       → literal-seen room d l ≡ cond (value α l) Passes d
   seen-known n α room d l k i =
-      ap (with-literal d (l .variable) (byte (not (l .negated)))) (k .below (l .variable) (i .0) (i .1)) ∙ with-known d (l .variable) (l .negated) (α (l .variable))
+      ap (with-literal d (l .variable) (byte (not (l .negated)))) (k .below (l .variable) (i .0) (i .1))
+      ∙ with-known d (l .variable) (l .negated) (α (l .variable))
 
   -- ---- behind n: all literals are known, and one of them is true
 
@@ -81,7 +84,8 @@ module _ (Used : ℕ → Type 0) (positive : (v : ℕ) → Used v → 0 < v) whe
     where
       seen : (b : Bool) → value α l ≡ b → verdict room AllFalse (l ∷ m ∷ c) ≡ verdict room (cond b Passes AllFalse) (m ∷ c)
       seen b e =
-          ap (λ (d : Verdict). verdict room d (m ∷ c)) (seen-known n α room AllFalse l k (s .0) ∙ ap (λ (x : Bool). cond x Passes AllFalse) e)
+          ap (λ (d : Verdict). verdict room d (m ∷ c))
+          (seen-known n α room AllFalse l k (s .0) ∙ ap (λ (x : Bool). cond x Passes AllFalse) e)
 
       or-right : (x y : Bool) → y ≡ true → x || y ≡ true
       or-right true y e = refl
@@ -93,7 +97,8 @@ module _ (Used : ℕ → Type 0) (positive : (v : ℕ) → Used v → 0 < v) whe
           inl (seen true e ∙ verdict-passes room (m ∷ c), ap (λ (x : Bool). x || holds β (m ∷ c)) (sym (value-local Used l (s .0) a) ∙ e))
       go false e f g =
           ⊎-elim
-          (λ (r : (verdict room AllFalse (m ∷ c) ≡ Passes) × (holds β (m ∷ c) ≡ true)). inl (seen false e ∙ r .0, or-right (value β l) (holds β (m ∷ c)) (r .1)))
+          (λ (r : (verdict room AllFalse (m ∷ c) ≡ Passes) × (holds β (m ∷ c) ≡ true)). inl
+          (seen false e ∙ r .0, or-right (value β l) (holds β (m ∷ c)) (r .1)))
           (λ (r : verdict room AllFalse (m ∷ c) ≡ Sets n (byte (α n))). inr (seen false e ∙ r))
           (f g)
 
@@ -101,8 +106,10 @@ module _ (Used : ℕ → Type 0) (positive : (v : ℕ) → Used v → 0 < v) whe
       → Knows (suc n) α (set room (n - 1) (byte (α n)))
   learns n α room u h k = record {
     below = λ v uv q. ⊎-elim
-        (λ (d : v ≡ n). ap (value-at (set room (n - 1) (byte (α n)))) d ∙ getD-set-same room (n - 1) (byte (α n)) 2 (omega (arith, positive n u)) ∙ ap (λ (w : ℕ). byte (α w)) (sym d))
-        (λ (d : v < n). getD-set-other room (n - 1) (v - 1) (byte (α n)) 2 (λ e. omega (arith, positive n u, positive v uv)) ∙ k .below v uv d)
+        (λ (d : v ≡ n). ap (value-at (set room (n - 1) (byte (α n)))) d
+        ∙ getD-set-same room (n - 1) (byte (α n)) 2 (omega (arith, positive n u)) ∙ ap (λ (w : ℕ). byte (α w)) (sym d))
+        (λ (d : v < n). getD-set-other room (n - 1) (v - 1) (byte (α n)) 2 (λ e. omega (arith, positive n u, positive v uv))
+        ∙ k .below v uv d)
         (eq-or-lt-of-le (le-of-suc-le-suc q));
     above = λ v q. getD-set-other room (n - 1) (v - 1) (byte (α n)) 2 (λ e. omega (arith, positive n u)) ∙ k .above v (omega arith);
   }
@@ -123,7 +130,8 @@ module _ (Used : ℕ → Type 0) (positive : (v : ℕ) → Used v → 0 < v) whe
       let tl = and-right (holds α c) (satisfies α cs) t in
       ⊎-elim
       (λ (r : (verdict room AllFalse c ≡ Passes) × (holds β c ≡ true)). ⊎-elim
-      (λ (q : Set-to (suc n) α room cs). inl record { room′ = q .room′; long = q .long; over = over-passed room c cs (q .room′) i (r .0) (q .over); knows = q .knows })
+      (λ (q : Set-to (suc n) α room cs). inl record
+      { room′ = q .room′; long = q .long; over = over-passed room c cs (q .room′) i (r .0) (q .over); knows = q .knows })
       (λ (q : satisfies β cs ≡ true). inr (and-both (holds β c) (satisfies β cs) (r .1) q))
       (up-to n α β room cs u h a k (s .1) tl))
       (λ (r : verdict room AllFalse c ≡ Sets n (byte (α n))).
@@ -143,9 +151,11 @@ module _ (Used : ℕ → Type 0) (positive : (v : ℕ) → Used v → 0 < v) whe
   step-sets n cs α room s h k t =
       let β : Assignment = put n (not (α n)) α in
       let below : Agree Used n α β = λ v p q. put-other n (not (α n)) α v (λ e. omega arith) in
-      let says : (γ : Assignment) → satisfies γ cs ≡ true → γ n ≡ s .function γ = λ γ r. eq-of-beq (γ n) (s .function γ) (sym (s .forced γ) ∙ r) in
+      let says : (γ : Assignment) → satisfies γ cs ≡ true → γ n ≡ s .function γ =
+      λ γ r. eq-of-beq (γ n) (s .function γ) (sym (s .forced γ) ∙ r) in
       ⊎-elim (λ (r : Set-to (suc n) α room cs). r)
-      (λ (r : satisfies β cs ≡ true). absurd (not-itself (α n) (sym (put-same n (not (α n)) α) ∙ says β r ∙ sym (s .low α β below) ∙ sym (says α t))))
+      (λ (r : satisfies β cs ≡ true). absurd
+      (not-itself (α n) (sym (put-same n (not (α n)) α) ∙ says β r ∙ sym (s .low α β below) ∙ sym (says α t))))
       (up-to n α β room cs (s .used) h below k (s .shapes) t)
 
   steps-set : (a b : ℕ) (css : List (List Clause)) (α : Assignment) (room : List ℕ) → Steps Used a b css → b ≤ suc (length room)
@@ -157,8 +167,7 @@ module _ (Used : ℕ → Type 0) (positive : (v : ℕ) → Used v → 0 < v) whe
       let q = step-sets a cs α room (s .0) (omega (arith, steps-grow (suc a) b css (s .1))) k (satisfies-left α cs (joined css) t) in
       let r = steps-set (suc a) b css α (q .room′) (s .1) (omega (arith, q .long)) (q .knows) (satisfies-right α cs (joined css) t) in
       record {
-        room′ =
-            r .room′;
+        room′ = r .room′;
         long = r .long ∙ q .long;
         over = over-append room (q .room′) (r .room′) cs (joined css) (q .over) (r .over);
         knows = r .knows;

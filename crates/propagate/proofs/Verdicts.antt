@@ -58,7 +58,8 @@ reading-words room d n (l ∷ c) ws i =
 
 abbrev pub Passes-over : List ℕ → List Clause → List ℕ → Type 0
 Passes-over room cs room′ =
-    (allowance count : ℕ) (ws : List ℤ) → passed (length cs + allowance) count (words cs ++ ws) room ≡ passed allowance (count + length cs) ws room′
+    (allowance count : ℕ) (ws : List ℤ)
+    → passed (length cs + allowance) count (words cs ++ ws) room ≡ passed allowance (count + length cs) ws room′
 
 pub over-none : (room : List ℕ) → Passes-over room [] room
 over-none room allowance count ws = ap₂ (λ (a n : ℕ). passed a n ws room) (zero-add allowance) (sym (add-zero count))
@@ -68,7 +69,8 @@ pub over-append : (room room′ room″ : List ℕ) (cs ds : List Clause) → Pa
 over-append room room′ room″ cs ds p q allowance count ws =
     let e : length (cs ++ ds) + allowance ≡ length cs + (length ds + allowance) = omega (arith, length-append cs ds) in
     let f : count + length cs + length ds ≡ count + length (cs ++ ds) = omega (arith, length-append cs ds) in
-    ap₂ (λ (a : ℕ) (l : List ℤ). passed a count l room) e (ap (λ (l : List ℤ). l ++ ws) (words-append cs ds) ∙ append-assoc (words cs) (words ds) ws)
+    ap₂ (λ (a : ℕ) (l : List ℤ). passed a count l room) e
+    (ap (λ (l : List ℤ). l ++ ws) (words-append cs ds) ∙ append-assoc (words cs) (words ds) ws)
     ∙ p (length ds + allowance) count (words ds ++ ws)
     ∙ q allowance (count + length cs) ws
     ∙ ap (λ (n : ℕ). passed allowance n ws room″) f
@@ -88,16 +90,19 @@ module _ (room : List ℕ) (c : Clause) (cs : List Clause) (room′ : List ℕ) 
   -- a clause in front
   over-clause : (d : Verdict) → verdict room AllFalse c ≡ d → (allowance count : ℕ) (ws : List ℤ) → let r = Closed d (0 + suc (length c)) in
       passed (length (c ∷ cs) + allowance) count (words (c ∷ cs) ++ ws) room
-      ≡ on-or-stop (turn-of r) (room-of r room) (λ n. passed (length cs + allowance) (suc count) (drop n (map word c ++ (pos 0 ∷ (words cs ++ ws)))) (room-of r room))
+      ≡ on-or-stop (turn-of r) (room-of r room)
+      (λ n. passed (length cs + allowance) (suc count) (drop n (map word c ++ (pos 0 ∷ (words cs ++ ws)))) (room-of r room))
   over-clause d e allowance count ws =
       let l : List ℤ = map word c ++ (pos 0 ∷ (words cs ++ ws)) in
       ap₂ (λ (a : ℕ) (k : List ℤ). passed a count k room) (suc-add (length cs) allowance) (append-assoc (map word c) (pos 0 ∷ words cs) ws)
       ∙ passed-clause (length cs + allowance) count l room (some-word c (words cs ++ ws))
-      ∙ ap (λ (r : Reading). on-or-stop (turn-of r) (room-of r room) (λ n. passed (length cs + allowance) (suc count) (drop n l) (room-of r room)))
+      ∙ ap (λ (r : Reading). on-or-stop (turn-of r) (room-of r room)
+      (λ n. passed (length cs + allowance) (suc count) (drop n l) (room-of r room)))
       (reading-words room AllFalse 0 c (words cs ++ ws) i ∙ ap (λ (x : Verdict). Closed x (0 + suc (length c))) e)
 
   rest-of : (r : List ℕ) → Passes-over r cs room′ → (allowance count : ℕ) (ws : List ℤ)
-      → passed (length cs + allowance) (suc count) (drop (0 + suc (length c)) (map word c ++ (pos 0 ∷ (words cs ++ ws)))) r ≡ passed allowance (count + length (c ∷ cs)) ws room′
+      → passed (length cs + allowance) (suc count) (drop (0 + suc (length c)) (map word c ++ (pos 0 ∷ (words cs ++ ws)))) r
+      ≡ passed allowance (count + length (c ∷ cs)) ws room′
   rest-of r p allowance count ws =
       ap (λ (l : List ℤ). passed (length cs + allowance) (suc count) l r) (drop-clause c (words cs ++ ws))
       ∙ p allowance (suc count) ws
@@ -110,7 +115,8 @@ module _ (room : List ℕ) (c : Clause) (cs : List Clause) (room′ : List ℕ) 
   -- that sets a variable
   pub over-set : (v value : ℕ) → verdict room AllFalse c ≡ Sets v value → Passes-over (set room (v - 1) value) cs room′
       → Passes-over room (c ∷ cs) room′
-  over-set v value e p allowance count ws = over-clause (Sets v value) e allowance count ws ∙ rest-of (set room (v - 1) value) p allowance count ws
+  over-set v value e p allowance count ws =
+      over-clause (Sets v value) e allowance count ws ∙ rest-of (set room (v - 1) value) p allowance count ws
 
 -- ---- known and unknown literals
 
@@ -139,4 +145,5 @@ with-passes v wants value = go (eqb value wants) (ltb value 2)
 pub verdict-passes : (room : List ℕ) (c : Clause) → verdict room Passes c ≡ Passes
 verdict-passes room [] = refl
 verdict-passes room (l ∷ c) =
-    ap (λ (d : Verdict). verdict room d c) (with-passes (l .variable) (byte (not (l .negated))) (value-at room (l .variable))) ∙ verdict-passes room c
+    ap (λ (d : Verdict). verdict room d c) (with-passes (l .variable) (byte (not (l .negated))) (value-at room (l .variable)))
+    ∙ verdict-passes room c

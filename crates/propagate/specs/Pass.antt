@@ -45,19 +45,23 @@ room-of (Closed Passes n) room = room
 
 -- ---- the clauses
 
-pub record Outcome : Type 0 where
+-- what a pass leaves
+pub record Propagating : Type 0 where
   pub answer : Propagated
   pub room : List ℕ
 
-abbrev pub on-or-stop : Turn → List ℕ → (ℕ → Outcome) → Outcome
+abbrev pub propagating : Propagated → List ℕ → Propagating
+propagating answer room = record { answer = answer; room = room }
+
+abbrev pub on-or-stop : Turn → List ℕ → (ℕ → Propagating) → Propagating
 on-or-stop (On n) room on = on n
-on-or-stop (Stop x) room on = record { answer = Refused x; room = room }
+on-or-stop (Stop x) room on = propagating (Refused x) room
 
 -- with an allowance for so many clauses more, so many read already, the words left and the room
-unfoldable pub passed : ℕ → ℕ → List ℤ → List ℕ → Outcome
-passed zero count [] room = record { answer = Read count; room = room }
-passed zero count (w ∷ ws) room = record { answer = Refused Allowance; room = room }
-passed (suc allowance) count [] room = record { answer = Read count; room = room }
+unfoldable pub passed : ℕ → ℕ → List ℤ → List ℕ → Propagating
+passed zero count [] room = propagating (Read count) room
+passed zero count (w ∷ ws) room = propagating (Refused Allowance) room
+passed (suc allowance) count [] room = propagating (Read count) room
 passed (suc allowance) count (w ∷ ws) room =
     let r : Reading = reading-clause room (w ∷ ws) in
     on-or-stop (turn-of r) (room-of r room) (λ n. passed allowance (suc count) (drop n (w ∷ ws)) (room-of r room))
@@ -81,16 +85,17 @@ pub record Held : Type 0 where
 
 unfoldable pub given-rest : List ℤ → List ℕ → Held
 given-rest [] room = record { held = true; room = room }
-given-rest (w ∷ ws) room = cond (not-given w room) (record { held = false; room = room }) (given-rest ws (set room (named w - 1) (wanted w)))
+given-rest (w ∷ ws) room =
+    cond (not-given w room) (record { held = false; room = room }) (given-rest ws (set room (named w - 1) (wanted w)))
 
 -- ---- the call: a refusal leaves the room as it came
 
-abbrev pub settled : List ℕ → Propagated → List ℕ → Outcome
-settled came (Read n) room = record { answer = Read n; room = room }
-settled came (Refused x) room = record { answer = Refused x; room = came }
+abbrev pub settled : List ℕ → Propagated → List ℕ → Propagating
+settled came (Read n) room = propagating (Read n) room
+settled came (Refused x) room = propagating (Refused x) came
 
-unfoldable pub propagated : List ℤ → List ℤ → ℕ → List ℕ → Outcome
+unfoldable pub propagated : List ℤ → List ℤ → ℕ → List ℕ → Propagating
 propagated ws given allowance room =
     let g : Held = given-rest given room in
-    let o : Outcome = passed allowance 0 ws (g .room) in
-    cond (all-unknown room && g .held) (settled room (o .answer) (o .room)) (record { answer = Refused Given; room = room })
+    let o : Propagating = passed allowance 0 ws (g .room) in
+    cond (all-unknown room && g .held) (settled room (o .answer) (o .room)) (propagating (Refused Given) room)

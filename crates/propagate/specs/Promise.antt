@@ -10,7 +10,7 @@ use lib.ListN.{length}
 use Rattle.cnf.specs.Clause.{Clause, Assignment, value, satisfies}
 use Rattle.cnf.specs.Words.{named, names, literal-of-word}
 use Rattle.propagate.specs.Clause.{wanted, byte, value-at}
-use Rattle.propagate.specs.Pass.{Outcome}
+use Rattle.propagate.specs.Pass.{Propagating}
 use Rattle.propagate.specs.declared.Propagated.the-variants.{Read}
 
 -- ---- what stands in the room
@@ -30,7 +30,7 @@ True-in room (g ∷ gs) = (value-at room (named g) ≡ wanted g) × True-in room
 abbrev pub Given-or-new : List ℤ → ℕ → ℕ → Type 0
 Given-or-new given n v = (names v given ≡ true) ⊎ (n ≤ v)
 
-pub record Sets-all (n next : ℕ) (cs : List Clause) (given : List ℤ) (room : List ℕ) (o : Outcome) : Type 0 where
+pub record Sets-all (n next : ℕ) (cs : List Clause) (given : List ℤ) (room : List ℕ) (o : Propagating) : Type 0 where
   pub read : o .answer ≡ Read (length cs)
   pub long : length (o .room) ≡ length room
   pub holds : True-in (o .room) given

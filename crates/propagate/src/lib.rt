@@ -6,7 +6,8 @@ ghost use mathlib.Core.Path.{_≡_};
 ghost use Prim.Native.Nat.{_<_, _≤_};
 ghost use lib.ListN.{length};
 ghost use Rattle.propagate.specs.Clause.{wanted, with-literal, reading-clause};
-ghost use Rattle.propagate.specs.Pass.{turn-of, room-of, passed, given-rest, all-unknown, unknowns, propagated, propagated-number, clauses-read};
+ghost use Rattle.propagate.specs.Pass.{propagating, turn-of, room-of, passed, given-rest, all-unknown, unknowns, propagated};
+ghost use Rattle.propagate.specs.Pass.{propagated-number, clauses-read};
 
 // What a room that holds all values so far says of a clause: all its literals are false; all but one unknown literal, which sets a
 // variable to a value; or neither.
@@ -144,8 +145,7 @@ fn step(words: &[i32], values: &mut [u8]) -> Turn
 
 // The clauses once, in order; each costs one of the allowance.
 fn pass(words: &[i32], allowance: u64, values: &mut [u8]) -> Propagated
-    ensures { λ r. ⌜ r ≡ passed allowance 0 (now (words .entry)) (now (values .entry)) .answer ⌝ }
-    ensures { λ r. ⌜ now (values .exit) ≡ passed allowance 0 (now (words .entry)) (now (values .entry)) .room ⌝ }
+    ensures { λ r. ⌜ propagating r (now (values .exit)) ≡ passed allowance 0 (now (words .entry)) (now (values .entry)) ⌝ }
 {
     let mut at: usize = 0;
     let mut spent: u64 = 0;
@@ -219,8 +219,8 @@ fn give(given: &[i32], values: &mut [u8]) -> bool
 
 // The words, the literals that hold, the allowance of clauses and the value room, one byte for each variable: 0 false, 1 true, 2 unknown.
 pub fn propagate(words: &[i32], given: &[i32], allowance: u64, values: &mut [u8]) -> Propagated
-    ensures { λ r. ⌜ r ≡ propagated (now (words .entry)) (now (given .entry)) allowance (now (values .entry)) .answer ⌝ }
-    ensures { λ r. ⌜ now (values .exit) ≡ propagated (now (words .entry)) (now (given .entry)) allowance (now (values .entry)) .room ⌝ }
+    ensures { λ r. ⌜ propagating r (now (values .exit))
+        ≡ propagated (now (words .entry)) (now (given .entry)) allowance (now (values .entry)) ⌝ }
 {
     if !all_unknown(values) {
         return Propagated::Refused(Refusal::Given);

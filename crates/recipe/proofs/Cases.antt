@@ -4,7 +4,7 @@ use mathlib.Core.List.{List, map}
 use Rattle.line.specs.Number.{halvings-by, twos, odd-part}
 use Rattle.line.specs.Line.{kind-of, gives}
 use Rattle.line.specs.declared.Told.{Told}
-use Rattle.recipe.specs.Check.{checked-told, claims, judged, lines-checked, recipe-checked, checked}
+use Rattle.recipe.specs.Check.{checked-told, claims, judged, lines-judged, form-judged, recipe-judged, checked}
 use Rattle.cases.specs.Table.{Checked}
 use Rattle.cases.specs.Bench.{bench}
 use Rattle.cases.specs.Agreed.{agreed}
@@ -17,13 +17,13 @@ told k = checked-told (checked (k .c) (k .recipe))
 abbrev pub answered : Checked → Checked
 answered k = record { c = k .c; recipe = k .recipe; number = told k .number; line = told k .line; value = told k .value }
 
-abbrev pub Right : List Checked → Type 0
-Right cases = map answered cases ≡ cases
+abbrev pub As-worked : List Checked → Type 0
+As-worked cases = map answered cases ≡ cases
 
-pub bench-right : Right (bench .checked)
-unfolding bench halvings-by twos odd-part kind-of gives claims judged lines-checked recipe-checked checked
+pub bench-right : As-worked (bench .checked)
+unfolding bench halvings-by twos odd-part kind-of gives claims judged lines-judged form-judged recipe-judged checked
 bench-right = refl
 
-pub agreed-right : Right (agreed .checked)
-unfolding agreed halvings-by twos odd-part kind-of gives claims judged lines-checked recipe-checked checked
+pub agreed-right : As-worked (agreed .checked)
+unfolding agreed halvings-by twos odd-part kind-of gives claims judged lines-judged form-judged recipe-judged checked
 agreed-right = refl

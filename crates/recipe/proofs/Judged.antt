@@ -2,27 +2,25 @@
 -- breaks, its number in the recipe, and where the rule is 7 what it gives (`judged-says`). The verdict is a chain of tests; the test that
 -- broke names the rule, and those before it were passed. A line breaks no two rules first (`breaks-once`). Assumes nothing.
 use mathlib.Core.Path.{_≡_, refl, ap, ap₂, _∙_, sym}
-use mathlib.Core.Bool.{Bool, true, false, cond, true≢false}
+use mathlib.Core.Bool.{not, cond, true≢false}
 use Prim.Native.Nat.{ℕ, _+_, _%_, _≤_, _<_}
 use native.Mathlib.Decide.{decLe}
 use native.Mathlib.Omega.{arith}
 use lib.Dec.{eqb, ltb}
 use lib.IntN.{ℤ}
-use borrow.Author.Tests.{eqb-true, eqb-false, ltb-true, ltb-false}
+use borrow.Author.Tests.{eqb-true, eqb-false, ltb-true, ltb-false, not-true, not-false}
 use Rattle.line.specs.Line.{kind-gives}
 use Rattle.line.specs.Refusal.{told}
 use Rattle.line.specs.declared.Line.{Line}
 use Rattle.line.specs.declared.Told.{Told}
-use Rattle.recipe.specs.declared.Verdict.{Verdict}
-use Rattle.recipe.specs.declared.Verdict.the-variants.{Kept, Broken}
+use Rattle.line.specs.declared.Refusal.the-variants.{Form, Operand, Even, Value}
+use Rattle.line.proofs.Order.{by-test}
+use Rattle.line.specs.declared.Verdict.{Verdict}
+use Rattle.line.specs.declared.Verdict.the-variants.{Kept, Broken}
 use Rattle.recipe.specs.Check.{claims, judged}
 use Rattle.recipe.specs.Accepted.{Line-right}
 use Rattle.recipe.specs.Refused.{Line-rule, form, operand, odd, value, rule-number, Keeps, value-told, Breaks}
 use Rattle.recipe.proofs.Claims.{claims-true, true-claims}
-
-pub by-test : {A : Type 0} (P : A → Type 0) (t : Bool) (x y : A) → (t ≡ true → P x) → (t ≡ false → P y) → P (cond t x y)
-by-test P true x y f g = f refl
-by-test P false x y f g = g refl
 
 -- the rule of a number
 unfoldable rule-of : ℕ → Line-rule
@@ -67,17 +65,20 @@ module _ (line : Line) (i l r : ℕ) where
   pub judged-says : line .kind ≤ 3 → line .coefficient ≤ 1048575 → Says (judged line i l r)
   unfolding judged
   judged-says kinds most =
-      by-test Says (ltb 0 (line .top)) _ _ (λ e. unformed (λ k. omega (arith, ltb-true 0 (line .top) e, k .0))) (λ e₁.
-      by-test Says (eqb (line .kind) 0) _ _ (λ e. unformed (λ k. omega (arith, eqb-true (line .kind) 0 e, k .1))) (λ e₂.
+      by-test Says (ltb 0 (line .top)) (Form (i + 1)) _ (λ e. unformed (λ k. omega (arith, ltb-true 0 (line .top) e, k .0))) (λ e₁.
+      by-test Says (eqb (line .kind) 0) (Form (i + 1)) _ (λ e. unformed (λ k. omega (arith, eqb-true (line .kind) 0 e, k .1))) (λ e₂.
       let f : Keeps form line i l r = (omega (arith, ltb-false 0 (line .top) e₁), omega (arith, eqb-false (line .kind) 0 e₂), kinds) in
-      by-test Says (ltb i (line .left)) _ _ (λ e. late f (λ k. omega (arith, ltb-true i (line .left) e, k .0))) (λ e₃.
-      by-test Says (ltb i (line .right)) _ _ (λ e. late f (λ k. omega (arith, ltb-true i (line .right) e, k .1))) (λ e₄.
+      by-test Says (ltb i (line .left)) (Operand (i + 1)) _ (λ e. late f (λ k. omega (arith, ltb-true i (line .left) e, k .0))) (λ e₃.
+      by-test Says (ltb i (line .right)) (Operand (i + 1)) _ (λ e. late f (λ k. omega (arith, ltb-true i (line .right) e, k .1))) (λ e₄.
       let o : Keeps operand line i l r = (ltb-false i (line .left) e₃, ltb-false i (line .right) e₄) in
-      by-test Says (eqb (line .coefficient % 2) 0) _ _
-      (λ e. breaks odd (omega arith) (λ h. f) (λ h. o) (λ h. absurd (omega arith)) (λ k. omega (arith, eqb-true (line .coefficient % 2) 0 e, k)))
+      by-test Says (eqb (line .coefficient % 2) 0) (Even (i + 1)) _
+      (λ e. breaks odd (omega arith) (λ h. f) (λ h. o) (λ h. absurd (omega arith))
+      (λ k. omega (arith, eqb-true (line .coefficient % 2) 0 e, k)))
       (λ e₅.
       let p : Keeps odd line i l r = omega (arith, eqb-false (line .coefficient % 2) 0 e₅) in
-      by-test Says (claims (line .coefficient) given) _ _
+      by-test Says (not (claims (line .coefficient) given)) (Value (i + 1) given) Kept
+      (λ e. breaks value (omega arith) (λ h. f) (λ h. o) (λ h. p)
+      (λ k. true≢false (sym (true-claims (line .coefficient) given k) ∙ not-true (claims (line .coefficient) given) e)))
       (λ e.
       record {
         top = f .0;
@@ -87,10 +88,8 @@ module _ (line : Line) (i l r : ℕ) where
         right = o .1;
         odd = p;
         most = most;
-        value = claims-true (line .coefficient) given e;
-      })
-      (λ e.
-      breaks value (omega arith) (λ h. f) (λ h. o) (λ h. p) (λ k. true≢false (sym (true-claims (line .coefficient) given k) ∙ e))))))))
+        value = claims-true (line .coefficient) given (not-false (claims (line .coefficient) given) e);
+      }))))))
     where
       unformed : (Keeps form line i l r → ⊥) → Breaks line i l r (told-of form)
       unformed = breaks form (omega arith) (λ h. absurd (omega arith)) (λ h. absurd (omega arith)) (λ h. absurd (omega arith))

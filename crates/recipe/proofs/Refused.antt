@@ -8,31 +8,34 @@
 --
 -- Why. The walk goes on over lines that are kept, which are right, up to the first that is not, or to the product behind the last
 -- (`walked`). One recipe has one first bad line, and of that one thing is told (`first-bad-once`). Assumes nothing.
-use mathlib.Core.Path.{_≡_, sym, subst}
-use mathlib.Core.Logic.{_⊎_, inl, inr}
-use mathlib.Core.List.{List}
+use mathlib.Core.Path.{_≡_, sym, ap, subst}
+use mathlib.Core.Bool.{not}
+use mathlib.Core.List.{List, [], _∷_}
 use Prim.Native.Nat.{ℕ, zero, suc, _+_, _/_, _%_, _^_, _≤_, _<_}
 use native.Mathlib.Decide.{ℕ-discrete, decLe}
 use native.Mathlib.Omega.{arith}
 use lib.Dec.{eqb, ltb}
 use lib.IntN.{ℤ, natAbs}
 use lib.ListN.{length}
-use borrow.Author.Tests.{eq-eqb, ne-eqb, le-ltb}
+use borrow.Author.Tests.{eq-eqb, le-ltb}
+use Rattle.line.specs.Limits.{out-of-range}
 use Rattle.line.specs.Number.{odd-part}
+use Rattle.line.specs.Order.{refuses, unless-broken, first-broken, answer-by}
 use Rattle.line.specs.Line.{kind-of}
 use Rattle.line.specs.Refusal.{told, refusal-number}
 use Rattle.line.specs.declared.Told.{Told}
 use Rattle.line.specs.declared.Refusal.{Refusal}
+use Rattle.line.specs.declared.Refusal.the-variants.{Constant, Length, Product}
+use Rattle.line.proofs.Order.{by-test, within-kept}
 use Rattle.line.proofs.Value.{gives-small}
-use Rattle.recipe.specs.declared.Checked.{Checked}
-use Rattle.recipe.specs.declared.Checked.the-variants.{Refused}
-use Rattle.recipe.specs.declared.Verdict.{Verdict}
-use Rattle.recipe.specs.declared.Verdict.the-variants.{Kept, Broken}
-use Rattle.recipe.specs.Check.{line-at, coefficient-at, left-coefficient, right-coefficient, judged-at}
-use Rattle.recipe.specs.Check.{unless-broken, lines-checked, recipe-checked, out-of-range, checked, checked-told}
+use Rattle.recipe.specs.declared.Checked.the-variants.{Accepted, Refused}
+use Rattle.line.specs.declared.Verdict.{Verdict}
+use Rattle.line.specs.declared.Verdict.the-variants.{Kept, Broken}
+use Rattle.recipe.specs.Check.{line-at, left-coefficient, right-coefficient, judged-at}
+use Rattle.recipe.specs.Check.{lines-judged, form-judged, product-at, recipe-judged, checked, checked-told}
 use Rattle.recipe.specs.Accepted.{Right-at}
 use Rattle.recipe.specs.Refused.{Line-rule, form, operand, odd, value, value-told, Breaks, First-bad}
-use Rattle.recipe.proofs.Judged.{by-test, Says, judged-says, right-unbroken, breaks-once}
+use Rattle.recipe.proofs.Judged.{Says, judged-says, right-unbroken, breaks-once}
 use Rattle.recipe.proofs.Walk.{coefficient-lt}
 
 told-small : (e : Line-rule) (z : ℤ) → natAbs z < 2 ^ 51 → natAbs (value-told e z) < 2 ^ 51
@@ -65,9 +68,10 @@ module _ (s : List ℕ) where
 
   -- ---- the walk
 
-  -- what is told of a walk over the lines before line n + 1, all of which are right or one of which is the first bad one
-  abbrev Walked : ℕ → Told → Type 0
-  Walked n t = (Right-before n × (Of-a-line t → ⊥)) ⊎ First-bad s t
+  -- the verdict of a walk over the lines before line n + 1: all of them are right, or it tells of the first bad one
+  abbrev Walked : ℕ → Verdict → Type 0
+  Walked n Kept = Right-before n
+  Walked n (Broken x) = First-bad s (told x)
 
   one-more : (i : ℕ) → Right-before i → Right-at s i → Right-before (suc i)
   one-more i b g j h =
@@ -77,28 +81,23 @@ module _ (s : List ℕ) where
       ]
 
   -- one line of the walk
-  turn : (m i : ℕ) → i < length s / 5 → Right-before i → (v : Verdict) (later : Checked) → Says-at i v
-      → (Right-before (suc i) → Walked m (checked-told later)) → Walked m (checked-told (unless-broken v later))
+  turn : (m i : ℕ) → i < length s / 5 → Right-before i → (v later : Verdict) → Says-at i v
+      → (Right-before (suc i) → Walked m later) → Walked m (unless-broken v later)
   turn m i h b Kept later g go = go (one-more i b g)
-  turn m i h b (Broken x) later g go = inr (record { place = i; within = h; before = b; bad = g })
+  turn m i h b (Broken x) later g go = record { place = i; within = h; before = b; bad = g }
 
-  walked : (d n i : ℕ) → i + n ≤ length s / 5 → Right-before i → Walked (i + n) (checked-told (lines-checked d s n i))
-  unfolding lines-checked
-  walked d zero i h b =
-      let z : i ≡ i + 0 = omega arith in
-      by-test (λ (a : Checked). Walked (i + 0) (checked-told a)) (eqb (coefficient-at s i) d) _ _
-      (λ q. inl (subst Right-before z b, λ k. omega (arith, k .0)))
-      (λ q. inl (subst Right-before z b, λ k. omega (arith, k .1)))
-  walked d (suc n) i h b =
+  walked : (n i : ℕ) → i + n ≤ length s / 5 → Right-before i → Walked (i + n) (lines-judged s n i)
+  unfolding lines-judged
+  walked zero i h b = let z : i ≡ i + 0 = omega arith in subst Right-before z b
+  walked (suc n) i h b =
       let z : suc i + n ≡ i + suc n = omega arith in
-      turn (i + suc n) i (omega arith) b (judged-at s i) (lines-checked d s n (suc i)) (says-at i)
-      (λ b′. subst (λ (m : ℕ). Walked m (checked-told (lines-checked d s n (suc i)))) z (walked d n (suc i) (omega arith) b′))
+      turn (i + suc n) i (omega arith) b (judged-at s i) (lines-judged s n (suc i)) (says-at i)
+      (λ b′. subst (λ (m : ℕ). Walked m (lines-judged s n (suc i))) z (walked n (suc i) (omega arith) b′))
 
-  all-walked : (d : ℕ) → Walked (length s / 5) (checked-told (lines-checked d s (length s / 5) 0))
-  all-walked d =
+  all-walked : Walked (length s / 5) (lines-judged s (length s / 5) 0)
+  all-walked =
       let z : 0 + length s / 5 ≡ length s / 5 = omega arith in
-      subst (λ (m : ℕ). Walked m (checked-told (lines-checked d s (length s / 5) 0))) z
-      (walked d (length s / 5) 0 (omega arith) (λ j h. absurd (omega arith)))
+      subst (λ (m : ℕ). Walked m (lines-judged s (length s / 5) 0)) z (walked (length s / 5) 0 (omega arith) (λ j h. absurd (omega arith)))
 
   -- ---- what is told
 
@@ -117,37 +116,60 @@ module _ (s : List ℕ) where
       let i = f .place in
       breaks-once (line-at s i) i (left-coefficient s i) (right-coefficient s i) t u (f .bad) (subst (Bad-at u) same (g .bad))
 
-  -- what is told of a line's rule is told of the first bad line
-  abbrev Spoken : Told → Type 0
-  Spoken t = Of-a-line t → First-bad s t
+  -- what a verdict tells of a line's rule is told of the first bad line
+  abbrev Spoken : Verdict → Type 0
+  Spoken Kept = Unit {0}
+  Spoken (Broken x) = Of-a-line (told x) → First-bad s (told x)
 
-  abbrev Spoken-check : Checked → Type 0
-  Spoken-check a = Spoken (checked-told a)
+  unspoken : (x : Refusal) → (Of-a-line (told x) → ⊥) → Spoken (Broken x)
+  unspoken x f k = absurd (f k)
 
-  recipe-spoken : (d : ℕ) → Spoken (checked-told (recipe-checked d s))
-  unfolding recipe-checked
-  recipe-spoken d =
-      by-test Spoken-check (eqb (length s % 5) 0) _ _
-      (λ e. by-test Spoken-check (ltb 160 (length s)) _ _ (λ e₁ k. absurd (omega (arith, k .0))) (λ e₁ k.
-      elim (all-walked d) [ inl w ↦ absurd (w .1 k) | inr f ↦ f ]))
-      (λ e k. absurd (omega (arith, k .0)))
+  lines-spoken : (v later : Verdict) → Walked (length s / 5) v → Spoken later → Spoken (unless-broken v later)
+  lines-spoken Kept later w k = k
+  lines-spoken (Broken x) later w k = λ _. w
+
+  form-spoken : Spoken (form-judged s)
+  unfolding form-judged
+  form-spoken =
+      by-test Spoken (not (eqb (length s % 5) 0)) Length _ (λ _. unspoken Length (λ k. omega (arith, k .0))) (λ _.
+      by-test Spoken (ltb 160 (length s)) Length _ (λ _. unspoken Length (λ k. omega (arith, k .0))) (λ _.
+      lines-spoken (lines-judged s (length s / 5) 0) Kept all-walked tt))
+
+  behind : (v later : Verdict) → Spoken v → Spoken later → Spoken (unless-broken v later)
+  behind Kept later k l = l
+  behind (Broken x) later k l = k
 
   module _ (c : ℕ) where
-    spoken : Spoken (checked-told (checked c s))
-    unfolding checked
-    spoken = by-test Spoken-check (out-of-range c) _ _ (λ e k. absurd (omega (arith, k .0))) (λ e. recipe-spoken (odd-part c))
+    spoken : Spoken (first-broken (refuses (out-of-range c) Constant ∷ recipe-judged (odd-part c) s ∷ []))
+    unfolding recipe-judged
+    spoken =
+        by-test Spoken (out-of-range c) Constant _ (λ _. unspoken Constant (λ k. omega (arith, k .0))) (λ _.
+        behind (recipe-judged (odd-part c) s) Kept (behind (form-judged s) _ form-spoken
+        (by-test Spoken (not (eqb (product-at s) (odd-part c))) Product Kept (λ _. unspoken Product (λ k. omega (arith, k .1))) (λ _. tt)))
+        tt)
+
+    refusal-is : (v : Verdict) (x : Refusal) → answer-by Refused Accepted v ≡ Refused x → Spoken v → Of-a-line (told x)
+        → First-bad s (told x)
+    refusal-is Kept x e k h = let z : _≡_ {A = ℕ} 0 1 = cc in absurd (omega arith)
+    refusal-is (Broken y) x e k h =
+        let q : told y ≡ told x = ap checked-told e in
+        subst (First-bad s) q (k (subst Of-a-line (sym q) h))
 
     pub refused-first-bad : (x : Refusal) → checked c s ≡ Refused x → 4 ≤ refusal-number x → refusal-number x ≤ 7 → First-bad s (told x)
-    refused-first-bad x e h h′ = subst Spoken-check e spoken (h, h′)
+    unfolding checked
+    refused-first-bad x e h h′ =
+        refusal-is (first-broken (refuses (out-of-range c) Constant ∷ recipe-judged (odd-part c) s ∷ [])) x e spoken (h, h′)
 
     pub first-bad-told : 1 ≤ c → c ≤ 65535 → length s % 5 ≡ 0 → length s ≤ 160 → (t : Told) → First-bad s t → checked-told (checked c s) ≡ t
-    unfolding checked recipe-checked
+    unfolding checked recipe-judged form-judged
     first-bad-told least most whole short t f =
-        simp (ne-eqb c 0 (omega arith), le-ltb 65535 c most, eq-eqb (length s % 5) 0 whole, le-ltb 160 (length s) short)
-        (elim (all-walked (odd-part c)) [
-          | inl w ↦ absurd (right-not-bad t (f .place) (w .0 (f .place) (f .within)) (f .bad))
-          | inr g ↦ first-bad-once (checked-told (lines-checked (odd-part c) s (length s / 5) 0)) t g f
-        ])
+        rw (within-kept 65535 c least most, eq-eqb (length s % 5) 0 whole, le-ltb 160 (length s) short)
+        (bad-told (lines-judged s (length s / 5) 0) _ all-walked)
+      where
+        bad-told : (v later : Verdict) → Walked (length s / 5) v
+            → checked-told (answer-by Refused Accepted (unless-broken (unless-broken (unless-broken v Kept) later) Kept)) ≡ t
+        bad-told Kept later w = absurd (right-not-bad t (f .place) (w (f .place) (f .within)) (f .bad))
+        bad-told (Broken x) later w = first-bad-once (told x) t w f
 
   pub value-bits : (t : Told) → First-bad s t → natAbs (t .value) < 2 ^ 51
   value-bits t f =

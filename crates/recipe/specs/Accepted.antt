@@ -4,10 +4,11 @@ use mathlib.Core.Path.{_≡_}
 use mathlib.Core.List.{List}
 use lib.IntN.{pos}
 use lib.ListN.{length}
+use Rattle.line.specs.Limits.{most-constant, most-coefficient, line-bytes, recipe-bytes}
 use Rattle.line.specs.Number.{odd-part}
 use Rattle.line.specs.Line.{kind-gives}
 use Rattle.line.specs.declared.Line.{Line}
-use Rattle.recipe.specs.Check.{line-at, coefficient-at, left-coefficient, right-coefficient}
+use Rattle.recipe.specs.Check.{line-at, left-coefficient, right-coefficient, product-at}
 
 -- line i + 1 has the form, names earlier operands, of the coefficients l and r, and claims what its kind gives
 pub record Line-right (line : Line) (i l r : ℕ) : Type 0 where
@@ -17,7 +18,7 @@ pub record Line-right (line : Line) (i l r : ℕ) : Type 0 where
   pub left : line .left ≤ i
   pub right : line .right ≤ i
   pub odd : line .coefficient % 2 ≡ 1
-  pub most : line .coefficient ≤ 1048575
+  pub most : line .coefficient ≤ most-coefficient
   pub value : pos (line .coefficient) ≡ kind-gives line l r
 
 -- line i + 1 of a recipe is right
@@ -26,12 +27,12 @@ Right-at recipe i = Line-right (line-at recipe i) i (left-coefficient recipe i) 
 
 -- at most 32 lines, of five bytes, each of them right, and the product is d
 pub record Makes (d : ℕ) (recipe : List ℕ) : Type 0 where
-  pub whole : length recipe % 5 ≡ 0
-  pub short : length recipe ≤ 160
-  pub line : (i : ℕ) → i < length recipe / 5 → Right-at recipe i
-  pub product : coefficient-at recipe (length recipe / 5) ≡ d
+  pub whole : length recipe % line-bytes ≡ 0
+  pub short : length recipe ≤ recipe-bytes
+  pub line : (i : ℕ) → i < length recipe / line-bytes → Right-at recipe i
+  pub product : product-at recipe ≡ d
 
 pub record Right (c : ℕ) (recipe : List ℕ) : Type 0 where
   pub least : 1 ≤ c
-  pub most : c ≤ 65535
+  pub most : c ≤ most-constant
   pub makes : Makes (odd-part c) recipe

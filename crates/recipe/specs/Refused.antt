@@ -4,6 +4,7 @@ use mathlib.Core.Path.{_≡_}
 use mathlib.Core.List.{List}
 use lib.IntN.{ℤ, pos}
 use lib.ListN.{length}
+use Rattle.line.specs.Limits.{line-bytes}
 use Rattle.line.specs.Line.{kind-gives}
 use Rattle.line.specs.declared.Line.{Line}
 use Rattle.line.specs.declared.Told.{Told}
@@ -46,6 +47,6 @@ pub record Breaks (line : Line) (i l r : ℕ) (t : Told) : Type 0 where
 -- the line told is bad, and every line before it is right
 pub record First-bad (recipe : List ℕ) (t : Told) : Type 0 where
   pub place : ℕ
-  pub within : place < length recipe / 5
+  pub within : place < length recipe / line-bytes
   pub before : (j : ℕ) → j < place → Right-at recipe j
   pub bad : Breaks (line-at recipe place) place (left-coefficient recipe place) (right-coefficient recipe place) t

@@ -1,23 +1,22 @@
--- The chosen split is legal, the cheapest and the first such; it depends on the lookup at earlier numbers alone. So exactly one lookup keeps the rule.
--- All of it holds for every cost that depends on earlier numbers alone.
+-- The chosen split is legal, the cheapest and the first such; it depends on the lookup at earlier numbers alone. So exactly one lookup
+-- keeps the rule. All of it holds for every cost that depends on earlier numbers alone.
 use Prim.Native.Nat.{ℕ, zero, suc, _+_, _*_, _/_, _%_, _≤_, _<_}
 use mathlib.Core.Path.{_≡_, refl, sym, ap, ap₂, _∙_, subst}
 use mathlib.Core.Bool.{true, false, false≢true}
 use mathlib.Core.Logic.{_⊎_, inl, inr, ⊎-elim}
 use native.Mathlib.Nat.{le-refl, le-antisymm, eq-or-lt-of-le, eq-zero-or-pos, div-eq-of-lt}
 use native.Mathlib.Omega.{arith}
-use native.Mathlib.Decide.{decLt, ℕ-discrete}
-use mathlib.Core.List.{List}
+use native.Mathlib.Decide.{ℕ-discrete}
 use borrow.Author.Tests.{lt-ltb, le-ltb, le-leb, eq-eqb, ne-eqb}
 use Rattle.line.specs.Number.{bit-length}
 use Rattle.line.specs.Line.{sminus, kind-of}
-use Rattle.split.specs.Split.{high, legal-at, legal}
+use Rattle.split.specs.Split.{high, left-at, right-at, legal-at, left, right, legal}
 use Rattle.split.specs.Reach.{turn, fuel}
-use Rattle.split.specs.Choose.{Cost, lines, Chosen, pick, better, best-below, choose, Rule, split-by, split-for, split-of, look}
+use Rattle.split.specs.Choose.{Cost, Chosen, pick, better, best-below, choose, Rule, split-by, split-for}
 use Rattle.split.specs.declared.Best.{Best}
 use Rattle.line.proofs.Number.{lt-or-le, bits-pos, bits-lt}
 use Rattle.split.proofs.Sets.{bool}
-use Rattle.split.proofs.Reach.{Legal, Agree, Depends, lines-depend, turn-pos, turn-bits, odd-case, turn-fuel}
+use Rattle.split.proofs.Reach.{Legal, Agree, Depends, turn-pos, turn-bits, odd-case, turn-fuel}
 
 pub same-or : (a b : ℕ) → (a ≡ b) ⊎ (a ≡ b → ⊥)
 same-or a b = elim (ℕ-discrete a b) [ yes e ↦ inl e | no e ↦ inr e ]
@@ -78,14 +77,16 @@ module _ (cost : Cost) (t : ℕ → ℕ) (n k : ℕ) (b : Best) where
     first = upto (λ r. legal r n ≡ true → cost t r n ≤ b .cost → b .split ≤ r) k (h .first) (λ _ _. omega arith);
   }
 
-  take-it : legal k n ≡ true → ((r : ℕ) → r < k → legal r n ≡ true → cost t k n < cost t r n) → Some cost t n (suc k) (record { split = k; cost = cost t k n })
+  take-it : legal k n ≡ true → ((r : ℕ) → r < k → legal r n ≡ true → cost t k n < cost t r n)
+      → Some cost t n (suc k) (record { split = k; cost = cost t k n })
   take-it e h = record {
     found = ⊎-elim (λ z. absurd (no-zero n (subst (λ (j : ℕ). legal j n ≡ true) z e))) (λ p. p) (eq-zero-or-pos k);
     below = omega arith;
     is-legal = e;
     is-cost = refl;
     cheapest = upto (λ r. legal r n ≡ true → cost t k n ≤ cost t r n) k (λ r l q. omega (arith, h r l q)) (λ _. le-refl _);
-    first = upto (λ r. legal r n ≡ true → cost t r n ≤ cost t k n → k ≤ r) k (λ r l q c. absurd (omega (arith, h r l q))) (λ _ _. le-refl _);
+    first = upto (λ r. legal r n ≡ true → cost t r n ≤ cost t k n → k ≤ r) k (λ r l q c. absurd (omega (arith, h r l q)))
+        (λ _ _. le-refl _);
   }
 
   step : None n k b ⊎ Some cost t n k b → None n (suc k) (better cost t n k b) ⊎ Some cost t n (suc k) (better cost t n k b)
@@ -101,13 +102,19 @@ module _ (cost : Cost) (t : ℕ → ℕ) (n k : ℕ) (b : Best) where
       (λ l. subst (λ (x : Best). Some cost t n (suc k) x) (sym (better-is cost t n k b e ∙ pick-more k (cost t k n) b (h .found) l))
       (keep-some h (λ _. l)))
       (lt-or-le (cost t k n) (b .cost))))
-      (λ e. inr (subst (λ (x : Best). Some cost t n (suc k) x) (sym (better-not cost t n k b e)) (keep-some h (λ q. absurd (false≢true (sym e ∙ q))))))
+      (λ e. inr (subst (λ (x : Best). Some cost t n (suc k) x) (sym (better-not cost t n k b e))
+      (keep-some h (λ q. absurd (false≢true (sym e ∙ q))))))
       (bool (legal k n))
 
 -- SMINUS at p = N is always there
 last-at : (n : ℕ) → 0 < n → legal-at sminus (bit-length n) n ≡ true
 unfolding legal-at high
-last-at n h = rw (le-leb 1 (bit-length n) (bits-pos n h), le-leb (bit-length n) (bit-length n) (le-refl (bit-length n)), div-eq-of-lt (bits-lt n), legal-at)
+last-at n h = rw (
+  le-leb 1 (bit-length n) (bits-pos n h),
+  le-leb (bit-length n) (bit-length n) (le-refl (bit-length n)),
+  div-eq-of-lt (bits-lt n),
+  legal-at,
+)
 
 -- 32 * kind + p as kind and p
 pub as-legal : (k p n : ℕ) → 1 ≤ k → k ≤ 3 → p < 32 → legal (32 * k + p) n ≡ legal-at (kind-of k) p n
@@ -115,6 +122,14 @@ as-legal k p n one three h =
     let s : ℕ = 32 * k + p in
     rw (le-leb 1 (s / 32) (omega arith), le-leb (s / 32) 3 (omega arith))
     (ap₂ (λ (a b : ℕ). legal-at (kind-of a) b n) {x = s / 32} {y = k} {u = s % 32} {v = p} (omega arith) (omega arith))
+
+pub as-left : (k p n : ℕ) → p < 32 → left-at (kind-of k) p n ≡ left (32 * k + p) n
+as-left k p n h =
+    ap₂ (λ (a b : ℕ). left-at (kind-of a) b n) {x = k} {y = (32 * k + p) / 32} {u = p} {v = (32 * k + p) % 32} (omega arith) (omega arith)
+
+pub as-right : (k p n : ℕ) → p < 32 → right-at (kind-of k) p n ≡ right (32 * k + p) n
+as-right k p n h =
+    ap₂ (λ (a b : ℕ). right-at (kind-of a) b n) {x = k} {y = (32 * k + p) / 32} {u = p} {v = (32 * k + p) % 32} (omega arith) (omega arith)
 
 last-legal : (n : ℕ) → 0 < n → bit-length n < 32 → legal (64 + bit-length n) n ≡ true
 unfolding kind-of
@@ -152,7 +167,8 @@ module _ (cost : Cost) (t : ℕ → ℕ) where
   best-skip n a zero le h = ap (λ (k : ℕ). best-below cost t n k) {x = zero} {y = a} (omega arith)
   best-skip n a (suc b) le h = ⊎-elim
       (λ e. ap (λ (k : ℕ). best-below cost t n k) (sym e))
-      (λ lt. better-not cost t n b (best-below cost t n b) (h b (omega arith) (omega arith)) ∙ best-skip n a b (omega arith) (λ r g l. h r g (omega arith)))
+      (λ lt. better-not cost t n b (best-below cost t n b) (h b (omega arith) (omega arith))
+      ∙ best-skip n a b (omega arith) (λ r g l. h r g (omega arith)))
       (eq-or-lt-of-le le)
 
 -- and only one split is all of that
@@ -179,7 +195,8 @@ split-more cost f n h = rw (le-ltb n 2 h, split-by)
 split-legal : (cost : Cost) (f R : ℕ) → R ≤ suc f → ((m : ℕ) → turn m < R → bit-length m < 32) → Legal (split-by cost f) R
 split-legal cost zero R h small m big odd l = absurd (omega (arith, turn-pos m))
 split-legal cost (suc f) R h small m big odd l =
-    subst (λ (s : ℕ). legal s m ≡ true) (sym (split-more cost f m big)) (chosen cost (split-by cost f) m (omega arith) (small m l) .is-legal)
+    subst (λ (s : ℕ). legal s m ≡ true) (sym (split-more cost f m big))
+    (chosen cost (split-by cost f) m (omega arith) (small m l) .is-legal)
 
 pub split-1 : (cost : Cost) → split-for cost 1 ≡ 0
 unfolding split-for
@@ -198,10 +215,12 @@ module _ (cost : Cost) (depends : Depends cost) where
   unfolding best-below
   best-cong t u n ok ag big odd fits zero = refl
   best-cong t u n ok ag big odd fits (suc k) =
-      better-cong t u n ok ag big odd fits k (best-below cost t n k) ∙ ap (λ (b : Best). better cost u n k b) (best-cong t u n ok ag big odd fits k)
+      better-cong t u n ok ag big odd fits k (best-below cost t n k)
+      ∙ ap (λ (b : Best). better cost u n k b) (best-cong t u n ok ag big odd fits k)
 
   -- the chosen split depends on the lookup at earlier numbers alone
-  pub choose-cong : (t u : ℕ → ℕ) (n : ℕ) → Legal t (turn n) → Agree t u (turn n) → 1 < n → n % 2 ≡ 1 → bit-length n < 64 → choose cost t n ≡ choose cost u n
+  pub choose-cong : (t u : ℕ → ℕ) (n : ℕ) → Legal t (turn n) → Agree t u (turn n) → 1 < n → n % 2 ≡ 1 → bit-length n < 64
+      → choose cost t n ≡ choose cost u n
   unfolding choose
   choose-cong t u n ok ag big odd fits = ap (λ (b : Best). b .split) (best-cong t u n ok ag big odd fits 128)
 
@@ -227,14 +246,16 @@ module _ (cost : Cost) (depends : Depends cost) where
       split-same F (suc F) n odd few rf (omega arith)
       ∙ split-more cost F n big
       ∙ choose-cong (split-by cost F) (λ m. split-by cost (fuel m) m) n (split-legal cost F (turn n) (omega arith) (below n few))
-      (λ m b o l. let mb : bit-length m < 32 = below n few m l in split-same F (fuel m) m o mb (omega arith) (turn-fuel m)) big odd (omega arith)
+      (λ m b o l. let mb : bit-length m < 32 = below n few m l in split-same F (fuel m) m o mb (omega arith) (turn-fuel m)) big odd
+      (omega arith)
 
   -- the chosen splits keep the rule
   pub split-keeps : (L : ℕ) → L < 32 → Rule cost (split-for cost) L
   split-keeps L h = record { one = split-1 cost; others = λ n big odd l. split-rule n big odd (omega arith) }
 
   pub split-chosen : (n : ℕ) → 1 < n → n % 2 ≡ 1 → bit-length n < 32 → Chosen cost (split-for cost) n (split-for cost n)
-  split-chosen n big odd few = subst (λ (s : ℕ). Chosen cost (split-for cost) n s) (sym (split-rule n big odd few)) (chosen cost (split-for cost) n (omega arith) few)
+  split-chosen n big odd few = subst (λ (s : ℕ). Chosen cost (split-for cost) n s) (sym (split-rule n big odd few))
+      (chosen cost (split-for cost) n (omega arith) few)
 
   pub splits-legal : (n : ℕ) → bit-length n < 32 → Legal (split-for cost) (suc (turn n))
   splits-legal n few m big odd lt = split-chosen m big odd (omega (arith, turn-bits m n (omega arith))) .is-legal
@@ -258,7 +279,3 @@ module _ (cost : Cost) (depends : Depends cost) where
   -- exactly one lookup keeps the rule
   pub only : (t : ℕ → ℕ) (L : ℕ) → Rule cost t L → L < 32 → (n : ℕ) → n % 2 ≡ 1 → bit-length n ≤ L → t n ≡ split-for cost n
   only t L h few n odd l = only-by t L h few (suc (turn n)) n (le-refl (suc (turn n))) odd l
-
--- a table that keeps document 01's rule is the table of the chosen splits
-pub only-table : (table : List ℕ) (L : ℕ) → Rule lines (look table) L → L < 32 → (n : ℕ) → n % 2 ≡ 1 → bit-length n ≤ L → look table n ≡ split-of n
-only-table table L h few n odd l = only lines lines-depend (look table) L h few n odd l

@@ -1,4 +1,5 @@
--- What a number reaches holds the operands of its members and all that they reach; nothing in it comes later than the number, or has more bits.
+-- What a number reaches holds the operands of its members and all that they reach; nothing in it comes later than the number, or has more
+-- bits.
 use Prim.Native.Nat.{ℕ, zero, suc, _%_, _≤_, _<_}
 use mathlib.Core.Path.{_≡_, refl, sym, ap, _∙_, subst}
 use mathlib.Core.Bool.{true, false, false≢true}
@@ -7,11 +8,12 @@ use mathlib.Core.Logic.{_⊎_, inl, inr, ⊎-elim}
 use native.Mathlib.Nat.{le-refl}
 use native.Mathlib.Omega.{arith}
 use Rattle.line.specs.Number.{bit-length}
-use Rattle.split.specs.Split.{kind, left, right}
+use Rattle.split.specs.Split.{kind, left, right, legal}
 use Rattle.split.specs.Order.{rank}
 use Rattle.split.specs.Reach.{turn, follow, reach, member, add, adds, set-of, Held}
 use Rattle.split.proofs.Splits.{Operand, Operands, operands}
-use Rattle.split.proofs.Sets.{bool, member-none, member-left, member-last, member-other, member-right, member-both, adds-append, adds-one, adds-keeps, adds-has, adds-from, Within}
+use Rattle.split.proofs.Sets.{bool, member-none, member-left, member-last, member-other, member-right, member-both, adds-append}
+use Rattle.split.proofs.Sets.{adds-one, adds-keeps, adds-has, adds-from, Within}
 use Rattle.split.proofs.Reach.{Legal, turn-pos, turn-bits, odd-case, reach-1, reach-step}
 
 unfoldable pub Has : ℕ → List ℕ → Type 0
@@ -75,39 +77,87 @@ pub reach-closed : (t : ℕ → ℕ) (n : ℕ) → Legal t (suc (turn n)) → n 
 reach-closed t n ok odd fits = record {
   member = along t (λ m x. (1 < x) × (x % 2 ≡ 1) × (turn x ≤ turn m) × Has (left (t x) x) (reach t m) × Has (right (t x) x) (reach t m))
       (λ m h. (h .big, h .odd, le-refl (turn m), h .has-left, h .has-right))
-      (λ m k x o w g. (g .0, g .1, omega (arith, o .turn, g .2), wider (left (t x) x) (reach t k) (reach t m) w (g .3), wider (right (t x) x) (reach t k) (reach t m) w (g .4)))
+      (λ m k x o w g. (
+        g .0,
+        g .1,
+        omega (arith, o .turn, g .2),
+        wider (left (t x) x) (reach t k) (reach t m) w (g .3),
+        wider (right (t x) x) (reach t k) (reach t m) w (g .4),
+      ))
       (turn n) n (le-refl (turn n)) ok odd fits;
 }
 
--- each coefficient of a set is odd and above 1, with its operands in the set or 1
-pub set-closed : (t : ℕ → ℕ) (d : ℕ) → Legal t (suc (turn d)) → d % 2 ≡ 1 → bit-length d < 64 → Closed t d (set-of t d)
-unfolding set-of
-set-closed t d ok odd fits =
-    let c = reach-closed t d ok odd fits in
-    let up : Within (reach t d) (adds (reach t d) []) = adds-has (reach t d) [] in
-    record {
-      member = λ x m. ⊎-elim
-          (λ none-m. absurd (false≢true (sym (member-none x) ∙ none-m)))
-          (λ m′. let g = c .member x m′ in (g .0, g .1, g .2, wider (left (t x) x) (reach t d) (adds (reach t d) []) up (g .3), wider (right (t x) x) (reach t d) (adds (reach t d) []) up (g .4)))
-          (adds-from (reach t d) [] x m);
-    }
+-- ---- sets whose coefficients can all be lines
 
--- no coefficient has more bits than n
-pub set-bits : (t : ℕ → ℕ) (n : ℕ) → Legal t (suc (turn n)) → n % 2 ≡ 1 → bit-length n < 64 → (x : ℕ) → member x (set-of t n) ≡ true → bit-length x ≤ bit-length n
-set-bits t n ok odd fits x m = turn-bits x n (set-closed t n ok odd fits .member x m .2)
+-- x is odd, above 1 and of at most L bits, its split is legal, and each operand is in the set or 1
+pub record Can-line (t : ℕ → ℕ) (L : ℕ) (set : List ℕ) (x : ℕ) : Type 0 where
+  pub big : 1 < x
+  pub odd : x % 2 ≡ 1
+  pub few : bit-length x ≤ L
+  pub is-legal : legal (t x) x ≡ true
+  pub has-left : Has (left (t x) x) set
+  pub has-right : Has (right (t x) x) set
+
+abbrev pub Lined : (ℕ → ℕ) → ℕ → List ℕ → Type 0
+Lined t L set = (x : ℕ) → member x set ≡ true → Can-line t L set x
+
+-- an odd number of at most L bits, from which every split is legal
+pub record Root (t : ℕ → ℕ) (L n : ℕ) : Type 0 where
+  pub odd : n % 2 ≡ 1
+  pub few : bit-length n ≤ L
+  pub legals : Legal t (suc (turn n))
+
+can-wider : (t : ℕ → ℕ) (L : ℕ) (us vs : List ℕ) → Within us vs → (x : ℕ) → Can-line t L us x → Can-line t L vs x
+can-wider t L us vs w x c = record {
+  big = c .big;
+  odd = c .odd;
+  few = c .few;
+  is-legal = c .is-legal;
+  has-left = wider (left (t x) x) us vs w (c .has-left);
+  has-right = wider (right (t x) x) us vs w (c .has-right);
+}
+
+module _ (t : ℕ → ℕ) (L : ℕ) (small : L < 64) where
+  reach-lined : (n : ℕ) → Root t L n → Lined t L (reach t n)
+  reach-lined n r x m =
+      let g = reach-closed t n (r .legals) (r .odd) (omega (arith, r .few)) .member x m in
+      record {
+        big = g .0;
+        odd = g .1;
+        few = omega (arith, r .few, turn-bits x n (g .2));
+        is-legal = r .legals x (g .0) (g .1) (omega (arith, g .2));
+        has-left = g .3;
+        has-right = g .4;
+      }
+
+  -- with what a root reaches a set stays so
+  adds-lined : (n : ℕ) → Root t L n → (base : List ℕ) → Lined t L base → Lined t L (adds (reach t n) base)
+  adds-lined n r base h x m = ⊎-elim
+      (λ a. can-wider t L base (adds (reach t n) base) (adds-keeps (reach t n) base) x (h x a))
+      (λ a. can-wider t L (reach t n) (adds (reach t n) base) (adds-has (reach t n) base) x (reach-lined n r x a))
+      (adds-from (reach t n) base x m)
+
+  -- the set of a number
+  pub set-lined : (n : ℕ) → Root t L n → Lined t L (set-of t n)
+  unfolding set-of
+  set-lined n r = adds-lined n r [] (λ x m. absurd (false≢true (sym (member-none x) ∙ m)))
 
 -- ---- reaching is transitive
 
 module _ (t : ℕ → ℕ) where
-  reach-trans : (n : ℕ) → Legal t (suc (turn n)) → n % 2 ≡ 1 → bit-length n < 64 → (x : ℕ) → member x (reach t n) ≡ true → Within (reach t x) (reach t n)
-  reach-trans n = along t (λ m x. Within (reach t x) (reach t m)) (λ m h y q. q) (λ m k x o w g y q. w y (g y q)) (turn n) n (le-refl (turn n))
+  reach-trans : (n : ℕ) → Legal t (suc (turn n)) → n % 2 ≡ 1 → bit-length n < 64 → (x : ℕ) → member x (reach t n) ≡ true
+      → Within (reach t x) (reach t n)
+  reach-trans n = along t (λ m x. Within (reach t x) (reach t m)) (λ m h y q. q) (λ m k x o w g y q. w y (g y q)) (turn n) n
+      (le-refl (turn n))
 
   -- what is reached is the number itself or comes before it in (bit length, zero bits)
-  pub reach-falls : (n : ℕ) → Legal t (suc (turn n)) → n % 2 ≡ 1 → bit-length n < 64 → (x : ℕ) → member x (reach t n) ≡ true → (x ≡ n) ⊎ (rank x < rank n)
+  pub reach-falls : (n : ℕ) → Legal t (suc (turn n)) → n % 2 ≡ 1 → bit-length n < 64 → (x : ℕ) → member x (reach t n) ≡ true
+      → (x ≡ n) ⊎ (rank x < rank n)
   reach-falls n = along t (λ m x. (x ≡ m) ⊎ (rank x < rank m)) (λ m h. inl refl)
       (λ m k x o w g. inr (⊎-elim (λ e. omega (arith, o .falls, ap rank e)) (λ r. omega (arith, o .falls)) g)) (turn n) n (le-refl (turn n))
 
-  pub held-adds : (n : ℕ) → Legal t (suc (turn n)) → n % 2 ≡ 1 → bit-length n < 64 → (base : List ℕ) → Held t base → Held t (adds (reach t n) base)
+  pub held-adds : (n : ℕ) → Legal t (suc (turn n)) → n % 2 ≡ 1 → bit-length n < 64 → (base : List ℕ) → Held t base
+      → Held t (adds (reach t n) base)
   held-adds n ok odd fits base h x m y q = ⊎-elim
       (λ a. adds-keeps (reach t n) base y (h x a y q))
       (λ a. adds-has (reach t n) base y (reach-trans n ok odd fits x a y q))
@@ -120,7 +170,8 @@ module _ (t : ℕ → ℕ) where
       (λ m. m)
       (bool (member n (reach t x)))
 
-pub spread : (t : ℕ → ℕ) (s n : ℕ) (base : List ℕ) → adds (follow (reach t) s n) base ≡ add n (adds (reach t (right s n)) (adds (reach t (left s n)) base))
+pub spread : (t : ℕ → ℕ) (s n : ℕ) (base : List ℕ)
+    → adds (follow (reach t) s n) base ≡ add n (adds (reach t (right s n)) (adds (reach t (left s n)) base))
 unfolding follow
 spread t s n base =
     let L = reach t (left s n) in

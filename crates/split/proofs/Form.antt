@@ -9,7 +9,8 @@ use lib.ListN.{length}
 use borrow.Author.Tests.{ne-eqb, eq-eqb}
 use Rattle.line.specs.Number.{bit-length}
 use Rattle.split.specs.Choose.{split-of, line-count}
-use Rattle.split.specs.Form.{Digit, minus, nought, plus, weight, nonzero, worth, sum-of, Rests, Apart, Topped, SignedForm, form-by, signed-form}
+use Rattle.split.specs.Form.{Digit, minus, nought, plus, weight, nonzero, worth, sum-of, Rests, Apart, Topped, SignedForm, form-by}
+use Rattle.split.specs.Form.{signed-form}
 use Rattle.split.proofs.Lines.{Shape, nothing, even, up, down, shape, lines-signed}
 
 -- ---- every number has one
@@ -24,8 +25,10 @@ by-value (suc f) n h = go (by-value f (n / 2)) (by-value f (n / 2 + 1)) (shape n
         → Shape n → sum-of plus (form-by (suc f) n) ≡ n + sum-of minus (form-by (suc f) n)
     go a b (nothing e) = subst (λ (m : ℕ). sum-of plus (form-by (suc f) m) ≡ m + sum-of minus (form-by (suc f) m)) (sym e) refl
     go a b (even p e) = rw (ne-eqb n 0 (omega arith), eq-eqb (n % 2) 0 e, form-by) (omega (arith, a (omega arith)))
-    go a b (up e) = rw (ne-eqb n 0 (omega arith), ne-eqb (n % 2) 0 (omega arith), eq-eqb (n % 4) 1 e, form-by) (omega (arith, a (omega arith)))
-    go a b (down e) = rw (ne-eqb n 0 (omega arith), ne-eqb (n % 2) 0 (omega arith), ne-eqb (n % 4) 1 (omega arith), form-by) (omega (arith, b (omega arith)))
+    go a b (up e) = rw (ne-eqb n 0 (omega arith), ne-eqb (n % 2) 0 (omega arith), eq-eqb (n % 4) 1 e, form-by)
+        (omega (arith, a (omega arith)))
+    go a b (down e) = rw (ne-eqb n 0 (omega arith), ne-eqb (n % 2) 0 (omega arith), ne-eqb (n % 4) 1 (omega arith), form-by)
+        (omega (arith, b (omega arith)))
 
 -- after an odd number's digit the rest is even, and its lowest digit is 0
 even-rests : (f n : ℕ) → n % 2 ≡ 0 → Rests (form-by f n)
@@ -47,11 +50,13 @@ by-apart (suc f) n h = go (by-apart f (n / 2)) (by-apart f (n / 2 + 1)) (shape n
     go a b (up e) =
         let q : n / 2 ≡ 2 * (n / 4) = omega arith in
         let ev : n / 2 / 2 ≡ n / 4 = omega arith in
-        rw (ne-eqb n 0 (omega arith), ne-eqb (n % 2) 0 (omega arith), eq-eqb (n % 4) 1 e, form-by) (even-rests f (n / 2) (omega arith), a (omega arith))
+        rw (ne-eqb n 0 (omega arith), ne-eqb (n % 2) 0 (omega arith), eq-eqb (n % 4) 1 e, form-by)
+        (even-rests f (n / 2) (omega arith), a (omega arith))
     go a b (down e) =
         let q : n / 2 ≡ 2 * (n / 4) + 1 = omega arith in
         let ev : (n / 2 + 1) / 2 ≡ n / 4 + 1 = omega arith in
-        rw (ne-eqb n 0 (omega arith), ne-eqb (n % 2) 0 (omega arith), ne-eqb (n % 4) 1 (omega arith), form-by) (even-rests f (n / 2 + 1) (omega arith), b (omega arith))
+        rw (ne-eqb n 0 (omega arith), ne-eqb (n % 2) 0 (omega arith), ne-eqb (n % 4) 1 (omega arith), form-by)
+        (even-rests f (n / 2 + 1) (omega arith), b (omega arith))
 
 -- a nonzero digit is a top, and a zero digit stands below one
 topped-one : (d : Digit) (ds : List Digit) → weight d ≡ 1 → Topped ds → Topped (d ∷ ds)
@@ -71,13 +76,20 @@ by-topped (suc f) n h = go (by-topped f (n / 2)) (by-topped f (n / 2 + 1)) (shap
   where
     go : (n / 2 ≤ f → Topped (form-by f (n / 2))) → (n / 2 + 1 ≤ f → Topped (form-by f (n / 2 + 1))) → Shape n → Topped (form-by (suc f) n)
     go a b (nothing e) = subst (λ (m : ℕ). Topped (form-by (suc f) m)) (sym e) tt
-    go a b (even p e) = rw (ne-eqb n 0 (omega arith), eq-eqb (n % 2) 0 e, form-by) (topped-nought (n / 2) (form-by f (n / 2)) (omega arith) (by-value f (n / 2) (omega arith)) (a (omega arith)))
-    go a b (up e) = rw (ne-eqb n 0 (omega arith), ne-eqb (n % 2) 0 (omega arith), eq-eqb (n % 4) 1 e, form-by) (topped-one plus (form-by f (n / 2)) refl (a (omega arith)))
-    go a b (down e) = rw (ne-eqb n 0 (omega arith), ne-eqb (n % 2) 0 (omega arith), ne-eqb (n % 4) 1 (omega arith), form-by) (topped-one minus (form-by f (n / 2 + 1)) refl (b (omega arith)))
+    go a b (even p e) = rw (ne-eqb n 0 (omega arith), eq-eqb (n % 2) 0 e, form-by)
+        (topped-nought (n / 2) (form-by f (n / 2)) (omega arith) (by-value f (n / 2) (omega arith)) (a (omega arith)))
+    go a b (up e) = rw (ne-eqb n 0 (omega arith), ne-eqb (n % 2) 0 (omega arith), eq-eqb (n % 4) 1 e, form-by)
+        (topped-one plus (form-by f (n / 2)) refl (a (omega arith)))
+    go a b (down e) = rw (ne-eqb n 0 (omega arith), ne-eqb (n % 2) 0 (omega arith), ne-eqb (n % 4) 1 (omega arith), form-by)
+        (topped-one minus (form-by f (n / 2 + 1)) refl (b (omega arith)))
 
 pub form-is : (n : ℕ) → SignedForm n (signed-form n)
 unfolding signed-form
-form-is n = record { apart = by-apart (suc n) n (omega arith); value = by-value (suc n) n (omega arith); topped = by-topped (suc n) n (omega arith) }
+form-is n = record {
+  apart = by-apart (suc n) n (omega arith);
+  value = by-value (suc n) n (omega arith);
+  topped = by-topped (suc n) n (omega arith);
+}
 
 -- ---- no number has two
 
@@ -140,4 +152,5 @@ form-only n ds f = two ds (signed-form n) n f (form-is n)
 -- ---- the bound, over every form
 
 pub lines-form : (n : ℕ) (ds : List Digit) → SignedForm n ds → n % 2 ≡ 1 → bit-length n < 32 → suc (line-count split-of n) ≤ nonzero ds
-lines-form n ds f odd few = subst (λ (es : List Digit). suc (line-count split-of n) ≤ nonzero es) (sym (form-only n ds f)) (lines-signed n odd few)
+lines-form n ds f odd few = subst (λ (es : List Digit). suc (line-count split-of n) ≤ nonzero es) (sym (form-only n ds f))
+    (lines-signed n odd few)

@@ -7,5 +7,6 @@ pub mod Choose
 pub mod Closed
 pub mod Order
 pub mod Earlier
+pub mod Bound
 pub mod Lines
 pub mod Form

@@ -29,7 +29,8 @@ turn-pos n = omega (arith, bits-lt n)
 
 pub turn-bits : (m n : ℕ) → turn m ≤ turn n → bit-length m ≤ bit-length n
 unfolding turn
-turn-bits m n k = le-of-suc-le-suc (lt-of-not-le (λ g. omega (arith, bits-lt m, bits-lt n, two-pow-succ (bit-length n), pow-mono {i = suc (bit-length n)} {j = bit-length m} g)))
+turn-bits m n k = le-of-suc-le-suc (lt-of-not-le (λ g. omega
+    (arith, bits-lt m, bits-lt n, two-pow-succ (bit-length n), pow-mono {i = suc (bit-length n)} {j = bit-length m} g)))
 
 reach-one : (f : ℕ) (t : ℕ → ℕ) (n : ℕ) → n < 2 → reach-by f t n ≡ []
 unfolding reach-by
@@ -68,7 +69,8 @@ unfolding turn fuel
 turn-fuel n = omega arith
 
 -- a lookup and what agrees with it before R reach the same
-pub reach-cong : (R : ℕ) (t u : ℕ → ℕ) → Legal t R → Agree t u R → (n : ℕ) → n % 2 ≡ 1 → bit-length n < 64 → turn n < R → reach t n ≡ reach u n
+pub reach-cong : (R : ℕ) (t u : ℕ → ℕ) → Legal t R → Agree t u R → (n : ℕ) → n % 2 ≡ 1 → bit-length n < 64 → turn n < R
+    → reach t n ≡ reach u n
 unfolding reach
 reach-cong R t u ok ag n odd fits lt = same R t u ok ag (fuel n) (fuel n) n odd fits lt (turn-fuel n) (turn-fuel n)
 
@@ -80,15 +82,18 @@ reach-1 t = reach-one (fuel 1) t 1 (omega arith)
 pub reach-step : (t : ℕ → ℕ) (n : ℕ) → Legal t (suc (turn n)) → 1 < n → n % 2 ≡ 1 → bit-length n < 64 → reach t n ≡ follow (reach t) (t n) n
 unfolding reach
 reach-step t n ok big odd fits =
-    let o : Operands (kind (t n)) (t n % 32) n (left (t n) n) (right (t n) n) = operands (t n) n big odd fits (ok n big odd (le-refl (suc (turn n)))) in
+    let o : Operands (kind (t n)) (t n % 32) n (left (t n) n) (right (t n) n) =
+    operands (t n) n big odd fits (ok n big odd (le-refl (suc (turn n)))) in
     let R : ℕ = suc (turn n) in
     let F : ℕ = fuel n in
     let rf : turn n ≤ F = turn-fuel n in
     same R t t ok (λ m b o l. refl) F (suc F) n odd fits (le-refl R) rf (omega arith)
     ∙ reach-more F t n big
     ∙ follow-cong (reach-by F t) (λ m. reach-by (fuel m) t m) (t n) n
-    (same R t t ok (λ m b o l. refl) F (fuel (left (t n) n)) (left (t n) n) (o .left .odd) (omega arith) (omega arith) (omega arith) (turn-fuel (left (t n) n)))
-    (same R t t ok (λ m b o l. refl) F (fuel (right (t n) n)) (right (t n) n) (o .right .odd) (omega arith) (omega arith) (omega arith) (turn-fuel (right (t n) n)))
+    (same R t t ok (λ m b o l. refl) F (fuel (left (t n) n)) (left (t n) n) (o .left .odd) (omega arith) (omega arith) (omega arith)
+    (turn-fuel (left (t n) n)))
+    (same R t t ok (λ m b o l. refl) F (fuel (right (t n) n)) (right (t n) n) (o .right .odd) (omega arith) (omega arith) (omega arith)
+    (turn-fuel (right (t n) n)))
 
 -- ---- costs
 

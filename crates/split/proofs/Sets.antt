@@ -62,11 +62,14 @@ cons-self x y ys e = member-here x y ys (eq-eqb x y e)
 pub member-left : (x : ℕ) (us bs : List ℕ) → member x us ≡ true → member x (us ++ bs) ≡ true
 unfolding member
 member-left x [] bs h = absurd (false≢true h)
-member-left x (a ∷ us) bs h = ⊎-elim (λ e. member-here x a (us ++ bs) e) (λ e. member-skip x a (us ++ bs) e ∙ member-left x us bs (sym (member-skip x a us e) ∙ h)) (bool (eqb x a))
+member-left x (a ∷ us) bs h =
+    ⊎-elim (λ e. member-here x a (us ++ bs) e) (λ e. member-skip x a (us ++ bs) e ∙ member-left x us bs (sym (member-skip x a us e) ∙ h))
+    (bool (eqb x a))
 
 pub member-last : (x : ℕ) (us : List ℕ) → member x (us ++ (x ∷ [])) ≡ true
 member-last x [] = member-head x []
-member-last x (a ∷ us) = ⊎-elim (λ e. member-here x a (us ++ (x ∷ [])) e) (λ e. member-skip x a (us ++ (x ∷ [])) e ∙ member-last x us) (bool (eqb x a))
+member-last x (a ∷ us) = ⊎-elim (λ e. member-here x a (us ++ (x ∷ [])) e) (λ e. member-skip x a (us ++ (x ∷ [])) e ∙ member-last x us)
+    (bool (eqb x a))
 
 pub member-other : (x y : ℕ) (us : List ℕ) → member x (us ++ (y ∷ [])) ≡ true → (member x us ≡ true) ⊎ (x ≡ y)
 unfolding member
@@ -78,7 +81,8 @@ member-other x y (a ∷ us) h = ⊎-elim
 
 pub member-right : (x : ℕ) (us vs : List ℕ) → member x vs ≡ true → member x (us ++ vs) ≡ true
 member-right x [] vs h = h
-member-right x (u ∷ us) vs h = ⊎-elim (λ e. member-here x u (us ++ vs) e) (λ e. member-skip x u (us ++ vs) e ∙ member-right x us vs h) (bool (eqb x u))
+member-right x (u ∷ us) vs h = ⊎-elim (λ e. member-here x u (us ++ vs) e) (λ e. member-skip x u (us ++ vs) e ∙ member-right x us vs h)
+    (bool (eqb x u))
 
 pub member-both : (x : ℕ) (us vs : List ℕ) → member x (us ++ vs) ≡ true → (member x us ≡ true) ⊎ (member x vs ≡ true)
 member-both x [] vs h = inr h
@@ -100,7 +104,8 @@ add-keeps x y base h = ⊎-elim
     (bool (member y base))
 
 add-has : (y : ℕ) (base : List ℕ) → member y (add y base) ≡ true
-add-has y base = ⊎-elim (λ e. ap (member y) (add-in y base e) ∙ e) (λ e. ap (member y) (add-new y base e) ∙ member-last y base) (bool (member y base))
+add-has y base = ⊎-elim (λ e. ap (member y) (add-in y base e) ∙ e) (λ e. ap (member y) (add-new y base e) ∙ member-last y base)
+    (bool (member y base))
 
 pub adds-keeps : (xs base : List ℕ) (x : ℕ) → member x base ≡ true → member x (adds xs base) ≡ true
 unfolding adds
@@ -155,12 +160,14 @@ grow (x ∷ xs) b base w = ⊎-elim
     (λ outb. ⊎-elim
     (λ ina. rw (add-new x b outb, add-in x base ina)
     (let ih : length (adds xs base) + length (b ++ (x ∷ [])) ≤ length base + length (adds xs (b ++ (x ∷ []))) =
-    grow xs (b ++ (x ∷ [])) base (λ y h. ⊎-elim (λ m. w y m) (λ q. subst (λ (z : ℕ). member z base ≡ true) (sym q) ina) (member-other y x b h)) in
+    grow xs (b ++ (x ∷ [])) base (λ y h. ⊎-elim (λ m. w y m) (λ q. subst (λ (z : ℕ). member z base ≡ true) (sym q) ina)
+    (member-other y x b h)) in
     omega (arith, snoc b x)))
     (λ outa. rw (add-new x b outb, add-new x base outa)
     (let ih : length (adds xs (base ++ (x ∷ []))) + length (b ++ (x ∷ [])) ≤ length (base ++ (x ∷ [])) + length (adds xs (b ++ (x ∷ []))) =
     grow xs (b ++ (x ∷ [])) (base ++ (x ∷ []))
-    (λ y h. ⊎-elim (λ m. member-left y base (x ∷ []) (w y m)) (λ q. subst (λ (z : ℕ). member z (base ++ (x ∷ [])) ≡ true) (sym q) (member-last x base)) (member-other y x b h)) in
+    (λ y h. ⊎-elim (λ m. member-left y base (x ∷ []) (w y m))
+    (λ q. subst (λ (z : ℕ). member z (base ++ (x ∷ [])) ≡ true) (sym q) (member-last x base)) (member-other y x b h)) in
     omega (arith, snoc b x, snoc base x)))
     (bool (member x base)))
     (bool (member x b))
@@ -171,10 +178,12 @@ unfolding member
 adds-length xs base = omega (arith, grow xs [] base (λ x h. absurd (false≢true h)))
 
 pub add-length : (x : ℕ) (base : List ℕ) → length (add x base) ≤ suc (length base)
-add-length x base = ⊎-elim (λ e. rw (add-in x base e) (omega arith)) (λ e. rw (add-new x base e) (omega (arith, snoc base x))) (bool (member x base))
+add-length x base = ⊎-elim (λ e. rw (add-in x base e) (omega arith)) (λ e. rw (add-new x base e) (omega (arith, snoc base x)))
+    (bool (member x base))
 
 pub add-monotone : (x : ℕ) (base : List ℕ) → length base ≤ length (add x base)
-add-monotone x base = ⊎-elim (λ e. rw (add-in x base e) (le-refl (length base))) (λ e. rw (add-new x base e) (omega (arith, snoc base x))) (bool (member x base))
+add-monotone x base = ⊎-elim (λ e. rw (add-in x base e) (le-refl (length base))) (λ e. rw (add-new x base e) (omega (arith, snoc base x)))
+    (bool (member x base))
 
 pub adds-monotone : (xs base : List ℕ) → length base ≤ length (adds xs base)
 unfolding adds
@@ -209,7 +218,8 @@ without-length x (y ∷ ys) h = ⊎-elim
 without-keeps : (x z : ℕ) (l : List ℕ) → (z ≡ x → ⊥) → member z l ≡ true → member z (without x l) ≡ true
 without-keeps x z [] ne h = absurd (false≢true (sym (member-none z) ∙ h))
 without-keeps x z (y ∷ ys) ne h = ⊎-elim
-    (λ e. ap (member z) (without-here x y ys e) ∙ ⊎-elim (λ q. absurd (ne (eqb-true z y q ∙ sym (eqb-true x y e)))) (λ q. sym (member-skip z y ys q) ∙ h) (bool (eqb z y)))
+    (λ e. ap (member z) (without-here x y ys e) ∙ ⊎-elim (λ q. absurd (ne (eqb-true z y q ∙ sym (eqb-true x y e))))
+    (λ q. sym (member-skip z y ys q) ∙ h) (bool (eqb z y)))
     (λ e. ap (member z) (without-skip x y ys e) ∙ ⊎-elim (λ q. member-here z y (without x ys) q)
     (λ q. member-skip z y (without x ys) q ∙ without-keeps x z ys ne (sym (member-skip z y ys q) ∙ h)) (bool (eqb z y)))
     (bool (eqb x y))
@@ -225,7 +235,8 @@ fits-in (y ∷ ys) base d w =
     omega (
       arith,
       without-length y base here,
-      fits-in ys (without y base) (d .1) (λ z m. without-keeps y z base (λ q. false≢true (sym (d .0) ∙ subst (λ (k : ℕ). member k ys ≡ true) q m)) (w z (cons-member z y ys m))),
+      fits-in ys (without y base) (d .1) (λ z m. without-keeps y z base
+          (λ q. false≢true (sym (d .0) ∙ subst (λ (k : ℕ). member k ys ≡ true) q m)) (w z (cons-member z y ys m))),
     )
 
 snoc-distinct : (x : ℕ) (base : List ℕ) → member x base ≡ false → Distinct base → Distinct (base ++ (x ∷ []))
@@ -233,7 +244,8 @@ snoc-distinct x [] e d = (member-none x, tt)
 snoc-distinct x (a ∷ base) e d = ⊎-elim
     (λ q. absurd (false≢true (sym e ∙ member-here x a base q)))
     (λ q. (
-      ⊎-elim (λ t. absurd (⊎-elim (λ m. false≢true (sym (d .0) ∙ m)) (λ r. false≢true (sym q ∙ eq-eqb x a (sym r))) (member-other a x base t))) (λ f. f) (bool (member a (base ++ (x ∷ [])))),
+      ⊎-elim (λ t. absurd (⊎-elim (λ m. false≢true (sym (d .0) ∙ m)) (λ r. false≢true (sym q ∙ eq-eqb x a (sym r)))
+          (member-other a x base t))) (λ f. f) (bool (member a (base ++ (x ∷ [])))),
       snoc-distinct x base (sym (member-skip x a base q) ∙ e) (d .1),
     ))
     (bool (eqb x a))
@@ -242,4 +254,5 @@ pub adds-distinct : (xs base : List ℕ) → Distinct base → Distinct (adds xs
 unfolding adds
 adds-distinct [] base d = d
 adds-distinct (x ∷ xs) base d = adds-distinct xs (add x base)
-    (⊎-elim (λ e. subst Distinct (sym (add-in x base e)) d) (λ e. subst Distinct (sym (add-new x base e)) (snoc-distinct x base e d)) (bool (member x base)))
+    (⊎-elim (λ e. subst Distinct (sym (add-in x base e)) d) (λ e. subst Distinct (sym (add-new x base e)) (snoc-distinct x base e d))
+    (bool (member x base)))

@@ -1,9 +1,10 @@
--- The operands of a legal split: odd, at least 1; they give n by the kind; neither has more bits; both come before n in (bit length, zero bits)
--- and in the turn of a fill.
+-- The operands of a legal split: odd, at least 1; they give n by the kind; neither has more bits; both come before n in (bit length, zero
+-- bits) and in the turn of a fill.
 use Prim.Native.Nat.{ℕ, zero, suc, _+_, _-_, _*_, _/_, _%_, _^_, _≤_, _<_}
 use mathlib.Core.Path.{_≡_, refl, sym, ap, _∙_, subst}
 use mathlib.Core.Bool.{Bool, true, false, _&&_, false≢true}
-use native.Mathlib.Nat.{two-pow-succ, div-add-mod', mul-add, add-mul, one-mul, mod-lt, mod-eq-of-lt, eq-or-lt-of-le, sub-add-cancel, suc-mul, mul-le-mul-right}
+use native.Mathlib.Nat.{two-pow-succ, div-add-mod', mul-add, add-mul, one-mul, mod-lt, mod-eq-of-lt, eq-or-lt-of-le, sub-add-cancel}
+use native.Mathlib.Nat.{suc-mul, mul-le-mul-right}
 use mathlib.Core.Logic.{_⊎_, inl, inr}
 use native.Mathlib.Omega.{arith}
 use lib.Dec.{eqb, ltb, leb}
@@ -77,7 +78,13 @@ by-bits m n h k = omega arith
 
 pub shorter-turn : (m n : ℕ) → bit-length m < bit-length n → turn m < turn n
 unfolding turn
-shorter-turn m n k = omega (arith, bits-lt n, bits-lt m, two-pow-succ (bit-length m), pow-mono {i = suc (bit-length m)} {j = bit-length n} k)
+shorter-turn m n k = omega (
+  arith,
+  bits-lt n,
+  bits-lt m,
+  two-pow-succ (bit-length m),
+  pow-mono {i = suc (bit-length m)} {j = bit-length n} k,
+)
 
 larger-turn : (m n : ℕ) → bit-length m ≤ bit-length n → n < m → turn m < turn n
 unfolding turn
@@ -98,7 +105,8 @@ module _ (n : ℕ) (big : 1 < n) (odd : n % 2 ≡ 1) (fits : bit-length n < 64) 
 
   by-splus : (q : ℕ) → suc q < bit-length n → high (suc q) n % 2 ≡ 1 → Operands splus (suc q) n (high (suc q) n) (low (suc q) n)
   by-splus q h e =
-      let lb : bit-length (high (suc q) n) ≤ bit-length n - suc q = bits-le (bit-length n - suc q) (high (suc q) n) (high-lt (suc q) n (omega arith)) in
+      let lb : bit-length (high (suc q) n) ≤ bit-length n - suc q = bits-le (bit-length n - suc q) (high (suc q) n)
+      (high-lt (suc q) n (omega arith)) in
       let rb : bit-length (low (suc q) n) ≤ suc q = bits-le (suc q) (low (suc q) n) (low-lt (suc q) n) in
       record {
         value = gives-of-sums splus (high (suc q) n) (suc q) (low (suc q) n) n (cut (suc q) n);
@@ -109,7 +117,8 @@ module _ (n : ℕ) (big : 1 < n) (odd : n % 2 ≡ 1) (fits : bit-length n < 64) 
   -- a number that is odd and at most half of n's power of two is shorter than n
   shorter : (m : ℕ) → m % 2 ≡ 1 → m ≤ 2 ^ (bit-length n - 1) → bit-length m < bit-length n
   shorter m e h =
-      let b : bit-length m ≤ bit-length n - 1 = bits-le (bit-length n - 1) m (omega (arith, pow-even (bit-length n - 1) (omega (arith, two-bits)))) in
+      let b : bit-length m ≤ bit-length n - 1 =
+      bits-le (bit-length n - 1) m (omega (arith, pow-even (bit-length n - 1) (omega (arith, two-bits)))) in
       omega (arith, two-bits)
 
   right-half : (q : ℕ) → (suc q ≡ bit-length n) ⊎ (suc q < bit-length n) → 2 ^ suc q - low (suc q) n ≤ 2 ^ (bit-length n - 1)
@@ -123,21 +132,29 @@ module _ (n : ℕ) (big : 1 < n) (odd : n % 2 ≡ 1) (fits : bit-length n < 64) 
       )
   right-half q (inr h) = omega (arith, pow-mono {i = suc q} {j = bit-length n - 1} (omega arith))
 
-  by-sminus : (q : ℕ) → suc q ≤ bit-length n → high (suc q) n % 2 ≡ 0 → Operands sminus (suc q) n (high (suc q) n + 1) (2 ^ suc q - low (suc q) n)
+  by-sminus : (q : ℕ) → suc q ≤ bit-length n → high (suc q) n % 2
+      ≡ 0 → Operands sminus (suc q) n (high (suc q) n + 1) (2 ^ suc q - low (suc q) n)
   by-sminus q h e =
       let lo : low (suc q) n % 2 ≡ 1 = low-odd q n odd in
       let lt : low (suc q) n < 2 ^ suc q = low-lt (suc q) n in
       let ro : (2 ^ suc q - low (suc q) n) % 2 ≡ 1 = omega (arith, two-pow-succ q) in
       let lb : bit-length (high (suc q) n + 1) < bit-length n =
-      shorter (high (suc q) n + 1) (omega arith) (omega (arith, high-lt (suc q) n h, pow-mono {i = bit-length n - suc q} {j = bit-length n - 1} (omega arith))) in
-      let rb : bit-length (2 ^ suc q - low (suc q) n) < bit-length n = shorter (2 ^ suc q - low (suc q) n) ro (right-half q (eq-or-lt-of-le h)) in
+      shorter (high (suc q) n + 1) (omega arith) (omega (
+        arith,
+        high-lt (suc q) n h,
+        pow-mono {i = bit-length n - suc q} {j = bit-length n - 1} (omega arith),
+      )) in
+      let rb : bit-length (2 ^ suc q - low (suc q) n) < bit-length n =
+      shorter (2 ^ suc q - low (suc q) n) ro (right-half q (eq-or-lt-of-le h)) in
       record {
-        value = gives-of-sums sminus (high (suc q) n + 1) (suc q) (2 ^ suc q - low (suc q) n) n (omega (arith, cut (suc q) n, add-mul (high (suc q) n) 1 (2 ^ suc q), one-mul (2 ^ suc q)));
+        value = gives-of-sums sminus (high (suc q) n + 1) (suc q) (2 ^ suc q - low (suc q) n) n
+            (omega (arith, cut (suc q) n, add-mul (high (suc q) n) 1 (2 ^ suc q), one-mul (2 ^ suc q)));
         left = short (high (suc q) n + 1) (omega arith) lb;
         right = short (2 ^ suc q - low (suc q) n) ro rb;
       }
 
-  by-minuss : (q : ℕ) → suc q < bit-length n → high (suc q) n % 2 ≡ 0 → Operands minuss (suc q) n (2 ^ bit-length n - 2 ^ suc q + low (suc q) n) (2 ^ (bit-length n - suc q) - 1 - high (suc q) n)
+  by-minuss : (q : ℕ) → suc q < bit-length n → high (suc q) n % 2 ≡ 0
+      → Operands minuss (suc q) n (2 ^ bit-length n - 2 ^ suc q + low (suc q) n) (2 ^ (bit-length n - suc q) - 1 - high (suc q) n)
   by-minuss q h e =
       let p : ℕ = suc q in
       let hi : ℕ = high p n in
@@ -154,7 +171,8 @@ module _ (n : ℕ) (big : 1 < n) (odd : n % 2 ≡ 1) (fits : bit-length n < 64) 
       let lv : l ≡ (A - 1) * 2 ^ p + lo = omega arith in
       let mid : (A - 1) * 2 ^ p ≡ r * 2 ^ p + hi * 2 ^ p =
       ap (λ (x : ℕ). x * 2 ^ p) (sym (sub-add-cancel {n = A - 1} {m = hi} (omega arith))) ∙ add-mul r hi (2 ^ p) in
-      let ol : ones l ≡ (bit-length n - p) + ones lo = ap ones lv ∙ ones-cat p (A - 1) lo lt ∙ ap (λ (x : ℕ). x + ones lo) (ones-ones (bit-length n - p)) in
+      let ol : ones l ≡ (bit-length n - p) + ones lo = ap ones lv ∙ ones-cat p (A - 1) lo lt
+      ∙ ap (λ (x : ℕ). x + ones lo) (ones-ones (bit-length n - p)) in
       let on : ones n ≡ ones hi + ones lo = ap ones (cut p n) ∙ ones-cat p hi lo lt in
       let oh : ones hi ≤ bit-length n - p - 1 = omega (arith, ones-step hi, ones-le (bit-length n - p - 1) (hi / 2) (omega arith)) in
       let oo : ones lo ≤ p = ones-le p lo lt in
@@ -165,14 +183,21 @@ module _ (n : ℕ) (big : 1 < n) (odd : n % 2 ≡ 1) (fits : bit-length n < 64) 
         left = record {
           odd = omega (arith, low-odd q n odd, dbl (A - 1) q);
           bits = lb;
-          turn = larger-turn l n lb (omega (arith, cut p n, mul-le-mul-right {m = suc hi} {n = A - 1} (2 ^ p) (omega arith), suc-mul hi (2 ^ p), pow-pos p));
+          turn = larger-turn l n lb (omega (
+            arith,
+            cut p n,
+            mul-le-mul-right {m = suc hi} {n = A - 1} (2 ^ p) (omega arith),
+            suc-mul hi (2 ^ p),
+            pow-pos p,
+          ));
           falls = by-zeros l n lb (omega arith) (omega arith);
         };
         right = short r (omega arith) (omega arith);
       }
 
 -- every legal split's operands
-operands-at : (k : Kind) (p n : ℕ) → 1 < n → n % 2 ≡ 1 → bit-length n < 64 → legal-at k p n ≡ true → Operands k p n (left-at k p n) (right-at k p n)
+operands-at : (k : Kind) (p n : ℕ) → 1 < n → n % 2 ≡ 1 → bit-length n < 64 → legal-at k p n ≡ true
+    → Operands k p n (left-at k p n) (right-at k p n)
 unfolding legal-at left-at right-at
 operands-at splus zero n big odd fits e = absurd (false≢true e)
 operands-at splus (suc q) n big odd fits e =
@@ -188,4 +213,5 @@ operands-at minuss (suc q) n big odd fits e =
     by-minuss n big odd fits q (ltb-true _ _ (t .1)) (eqb-true _ _ (t .2))
 
 pub operands : (s n : ℕ) → 1 < n → n % 2 ≡ 1 → bit-length n < 64 → legal s n ≡ true → Operands (kind s) (s % 32) n (left s n) (right s n)
-operands s n big odd fits e = operands-at (kind s) (s % 32) n big odd fits (and₃ (leb 1 (s / 32)) (leb (s / 32) 3) (legal-at (kind s) (s % 32) n) e .2)
+operands s n big odd fits e = operands-at (kind s) (s % 32) n big odd fits
+    (and₃ (leb 1 (s / 32)) (leb (s / 32) 3) (legal-at (kind s) (s % 32) n) e .2)

@@ -24,7 +24,8 @@ by-same zero g zero hf hg = sym (by-none g)
 by-same zero g (suc n) hf hg = absurd (omega arith)
 by-same (suc f) g zero hf hg = sym (by-none g)
 by-same (suc f) zero (suc n) hf hg = absurd (omega arith)
-by-same (suc f) (suc g) (suc n) hf hg = ap (λ (x : List ℕ). x ++ ((48 + suc n % 10) ∷ [])) (by-same f g (suc n / 10) (omega arith) (omega arith))
+by-same (suc f) (suc g) (suc n) hf hg =
+    ap (λ (x : List ℕ). x ++ ((48 + suc n % 10) ∷ [])) (by-same f g (suc n / 10) (omega arith) (omega arith))
 
 by-decimal : (f n : ℕ) → 0 < n → n ≤ f → digits-by f n ≡ decimal n
 unfolding decimal
@@ -42,7 +43,9 @@ decimal-one (suc n) h =
 pub decimal-more : (n : ℕ) → 10 ≤ n → decimal n ≡ decimal (n / 10) ++ ((48 + n % 10) ∷ [])
 unfolding digits-by
 decimal-more zero h = absurd (omega arith)
-decimal-more (suc m) h = sym (by-decimal (suc m) (suc m) (omega arith) (omega arith)) ∙ ap (λ (x : List ℕ). x ++ ((48 + suc m % 10) ∷ [])) (by-decimal m (suc m / 10) (omega arith) (omega arith))
+decimal-more (suc m) h =
+    sym (by-decimal (suc m) (suc m) (omega arith) (omega arith))
+    ∙ ap (λ (x : List ℕ). x ++ ((48 + suc m % 10) ∷ [])) (by-decimal m (suc m / 10) (omega arith) (omega arith))
 
 -- what holds of one digit, and goes on to one digit more, holds of every number's digits
 module _ (P : ℕ → List ℕ → Type 0) (one : (n : ℕ) → n < 10 → P n ((48 + n) ∷ []))
@@ -58,7 +61,8 @@ module _ (P : ℕ → List ℕ → Type 0) (one : (n : ℕ) → n < 10 → P n (
   pub decimal-ind : (n : ℕ) → P n (decimal n)
   decimal-ind n = ind-by n n (omega arith)
 
-length-more : (n : ℕ) (xs : List ℕ) → 10 ≤ n → ((k : ℕ) → n / 10 < 10 ^ suc k → length xs ≤ suc k) → (k : ℕ) → n < 10 ^ suc k → length (xs ++ ((48 + n % 10) ∷ [])) ≤ suc k
+length-more : (n : ℕ) (xs : List ℕ) → 10 ≤ n → ((k : ℕ) → n / 10 < 10 ^ suc k → length xs ≤ suc k) → (k : ℕ) → n < 10 ^ suc k
+    → length (xs ++ ((48 + n % 10) ∷ [])) ≤ suc k
 length-more n xs p ih zero h = absurd (omega arith)
 length-more n xs p ih (suc k) h = omega (arith, length-append xs ((48 + n % 10) ∷ []), ih k (omega (arith, pow-suc 10 (suc k))))
 

@@ -1,29 +1,27 @@
 -- The public call: a room that is too short and one that is not. Assumes nothing.
 use Prim.Native.Nat.{ℕ, _≤_, _<_}
-use mathlib.Core.Path.{_≡_, refl, sym, ap, _∙_}
+use mathlib.Core.Path.{_≡_, sym, ap₂, _∙_}
 use mathlib.Core.List.{List}
+use native.Mathlib.Omega.{arith}
 use lib.ListN.{length}
+use lib.Seq.{sets}
 use borrow.Author.Tests.{lt-ltb, le-ltb}
-use Rattle.line.specs.Room.{over}
-use Rattle.wording.specs.Print.{printed, filed}
-use Rattle.wording.specs.declared.Printed.{Printed}
+use Rattle.wording.specs.Print.{printed, printing, file-room, filed, Files}
 use Rattle.wording.specs.declared.Printed.the-variants.{Bytes, Short}
 
--- what the contract says of an answer and the room at exit
-abbrev pub Files : List ℕ → List ℕ → Printed → List ℕ → Type 0
-Files input room a room′ = (a ≡ filed input room .answer) × (room′ ≡ filed input room .room)
-
 module _ (input room : List ℕ) where
-  pub short-outcome : length room < 262144 → filed input room ≡ record { answer = Short; room = room }
+  pub short-outcome : length room < file-room → filed input room ≡ printing Short room
   unfolding filed
-  short-outcome h = rw (lt-ltb (length room) 262144 h)
+  short-outcome h = rw (lt-ltb (length room) file-room h)
 
-  pub long-outcome : 262144 ≤ length room → filed input room ≡ record { answer = Bytes (length (printed input)); room = over (printed input) room }
+  pub long-outcome : file-room ≤ length room → filed input room ≡ printing (Bytes (length (printed input))) (sets room 0 (printed input))
   unfolding filed
-  long-outcome h = rw (le-ltb (length room) 262144 h)
+  long-outcome h = rw (le-ltb (length room) file-room h)
 
-  pub too-short : length room < 262144 → Files input room Short room
-  too-short h = rw (short-outcome h) (refl, refl)
+  pub too-short : length room < file-room → Files input room Short room
+  too-short h = record { left = sym (short-outcome h); within = omega arith }
 
-  pub long-enough : {room′ : List ℕ} {n : ℕ} → 262144 ≤ length room → n ≡ length (printed input) → room′ ≡ over (printed input) room → Files input room (Bytes n) room′
-  long-enough h p q = rw (long-outcome h) (ap Bytes p, q)
+  pub long-enough : {room′ : List ℕ} {n : ℕ} → file-room ≤ length room → n ≡ length (printed input) → n ≤ length room
+      → room′ ≡ sets room 0 (printed input)
+      → Files input room (Bytes n) room′
+  long-enough h p k q = record { left = ap₂ (λ (m : ℕ) (r : List ℕ). printing (Bytes m) r) p q ∙ sym (long-outcome h); within = k }

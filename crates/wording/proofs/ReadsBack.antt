@@ -1,7 +1,7 @@
 -- A number is printed as digits, at least one and no zero before others, and what is printed reads back. Assumes nothing.
 use mathlib.Core.Path.{_≡_, refl, ap, sym, _∙_}
 use mathlib.Core.List.{List, [], _∷_, _++_}
-use Prim.Native.Nat.{ℕ, zero, suc, _+_, _-_, _*_, _/_, _%_, _^_, _≤_, _<_}
+use Prim.Native.Nat.{ℕ, suc, _+_, _-_, _*_, _/_, _%_, _^_, _≤_, _<_}
 use native.Mathlib.Nat.{mul-assoc, mul-comm, mul-le-mul-right, pow-suc, pow-le-pow-right}
 use native.Mathlib.Omega.{arith}
 use lib.IntN.{ℤ, pos, negsuc, negℤ}
@@ -73,7 +73,8 @@ value-below v (x ∷ xs) d =
     let u = v * 10 + (x - 48) in
     let p = 10 ^ length xs in
     let m : suc u * p ≤ suc v * 10 * p = mul-le-mul-right p (omega (arith, d .0, d .1)) in
-    let e : suc v * 10 ^ suc (length xs) ≡ suc v * 10 * p = ap (λ (y : ℕ). suc v * y) (pow-suc 10 (length xs) ∙ mul-comm p 10) ∙ sym (mul-assoc (suc v) 10 p) in
+    let e : suc v * 10 ^ suc (length xs) ≡ suc v * 10 * p =
+    ap (λ (y : ℕ). suc v * y) (pow-suc 10 (length xs) ∙ mul-comm p 10) ∙ sym (mul-assoc (suc v) 10 p) in
     omega (arith, value-below u xs (d .2), m, e)
 
 pub digits-below : (xs : List ℕ) (k : ℕ) → Digits xs → length xs ≤ k → value-of xs < 10 ^ k

@@ -12,7 +12,8 @@ use Rattle.wording.specs.declared.Request.{Request}
 use Rattle.wording.specs.declared.Request.the-variants.{Asked, Malformed}
 use Rattle.wording.specs.Decimal.{value-of}
 use Rattle.wording.specs.Request.{front, width-asked, asked, Digits, Says}
-use Rattle.wording.proofs.Asking.{width-none, width-long, width-more, width-other, width-right, request-none, request-long, request-end, request-other, request-on}
+use Rattle.wording.proofs.Asking.{width-none, width-long, width-more, width-other, width-right, request-none, request-long}
+use Rattle.wording.proofs.Asking.{request-end, request-other, request-on}
 
 -- what stands in front are digits, and no more of them than there are bytes
 front-digits : (s : List ℕ) → Digits (take (front s) s) × (front s ≤ length s)
@@ -67,7 +68,10 @@ width-when c t c′ w e =
                             let n = length-take-le (front t) t (omega arith) in
                             record {
                               es = take (front t) t;
-                              text = split-at t (front t) 0 (omega arith) ∙ ap₂ (λ (b : ℕ) (y : List ℕ). take (front t) t ++ (b ∷ y)) x (drop-of-length-le t {i = suc (front t)} (omega arith));
+                              text =
+                                  split-at t (front t) 0 (omega arith)
+                                  ∙ ap₂ (λ (b : ℕ) (y : List ℕ). take (front t) t ++ (b ∷ y)) x
+                                  (drop-of-length-le t {i = suc (front t)} (omega arith));
                               digits = front-digits t .0;
                               some = omega arith;
                               few = omega arith;
@@ -95,12 +99,16 @@ asked-when s c w e =
                         | no x ↦ absurd (clash _ c w (request-other s (front s) refl p q l x) e)
                         | yes x ↦
                             let f = front-digits s in
-                            let k = width-when (value-of (take (front s) s)) (drop (front s + 1) s) c w (request-on s (front s) refl p q l x ∙ e) in
+                            let k =
+                            width-when (value-of (take (front s) s)) (drop (front s + 1) s) c w (request-on s (front s) refl p q l x ∙ e) in
                             let n = length-take-le (front s) s (f .1) in
                             record {
                               constant-digits = take (front s) s;
                               width-digits = k .es;
-                              text = split-at s (front s) 0 (omega arith) ∙ ap₂ (λ (b : ℕ) (y : List ℕ). take (front s) s ++ (b ∷ y)) x (ap (λ (m : ℕ). drop m s) (sym (add-one (front s))) ∙ k .text);
+                              text =
+                                  split-at s (front s) 0 (omega arith)
+                                  ∙ ap₂ (λ (b : ℕ) (y : List ℕ). take (front s) s ++ (b ∷ y)) x
+                                  (ap (λ (m : ℕ). drop m s) (sym (add-one (front s))) ∙ k .text);
                               digits = (f .0, k .digits);
                               some = (omega arith, k .some);
                               few = (omega arith, k .few);
@@ -124,7 +132,8 @@ when-asked s c w h =
     let ls : length (ds ++ (32 ∷ t)) ≡ length ds + suc (length t) = length-append ds (32 ∷ t) in
     let d : drop (length ds + 1) (ds ++ (32 ∷ t)) ≡ t = drop-append-add ds (32 ∷ t) 1 in
     ap asked (h .text)
-    ∙ sym (request-on (ds ++ (32 ∷ t)) (length ds) fs (omega (arith, h .some .0)) (h .few .0) (omega arith) (getD-at ds 32 t 0 (length ds) refl))
+    ∙ sym (request-on (ds ++ (32 ∷ t)) (length ds) fs (omega (arith, h .some .0)) (h .few .0) (omega arith)
+    (getD-at ds 32 t 0 (length ds) refl))
     ∙ ap₂ (λ (x y : List ℕ). width-asked (value-of x) y) (take-at ds (32 ∷ t) (length ds) refl) d
     ∙ sym (width-right (value-of ds) t (length es) ft (omega (arith, h .some .1)) (h .few .1) lt (getD-at es 10 [] 0 (length es) refl))
     ∙ ap₂ (λ (x : ℕ) (y : ℕ). Asked x y) (sym (h .constant)) (ap value-of (take-at es (10 ∷ []) (length es) refl) ∙ sym (h .width))

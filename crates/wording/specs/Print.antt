@@ -1,19 +1,20 @@
 -- What the program prints for its whole standard input: it plans, writes and prints, in rooms that are never too short.
 -- A lookup t gives each odd number's split; document 01's is `split-of`.
-use Prim.Native.Nat.{ℕ, _-_}
+use Prim.Native.Nat.{ℕ, _-_, _≤_}
+use mathlib.Core.Path.{_≡_}
 use mathlib.Core.Bool.{cond}
-use mathlib.Core.List.{List}
+use mathlib.Core.List.{List, [], _∷_}
 use lib.Dec.{ltb}
 use lib.ListN.{length}
+use lib.Seq.{sets}
+use Rattle.line.specs.Limits.{out-of-range, not-a-width}
 use Rattle.line.specs.Number.{odd-part}
+use Rattle.line.specs.Order.{refuses, in-order}
 use Rattle.line.specs.Refusal.{refusal-number}
 use Rattle.line.specs.declared.Refusal.the-variants.{Constant, Width, Input}
-use Rattle.line.specs.Room.{over}
-use Rattle.recipe.specs.Check.{out-of-range}
 use Rattle.split.specs.Choose.{split-of}
 use Rattle.split.specs.Order.{recipe-for, lines-bytes}
 use Rattle.product.specs.Product.{Product, plain-product-of, y-entries, clause-words}
-use Rattle.product.specs.Write.{not-a-width}
 use Rattle.wording.specs.Request.{asked}
 use Rattle.wording.specs.File.{file-text, refused-text}
 use Rattle.wording.specs.declared.Printed.{Printed}
@@ -28,9 +29,8 @@ product-text c w p = file-text c w (y-entries p) (p .next - 1) (length (p .claus
 abbrev pub answered : (ℕ → ℕ) → Request → List ℕ
 answered t Malformed = refused-text (refusal-number Input)
 answered t (Asked c w) =
-    cond (out-of-range c) (refused-text (refusal-number Constant))
-    (cond (not-a-width w) (refused-text (refusal-number Width))
-    (product-text c w (plain-product-of c w (lines-bytes (recipe-for t (odd-part c))))))
+    in-order (λ x. refused-text (refusal-number x)) (refuses (out-of-range c) Constant ∷ refuses (not-a-width w) Width ∷ [])
+    (product-text c w (plain-product-of c w (lines-bytes (recipe-for t (odd-part c)))))
 
 unfoldable pub printed-by : (ℕ → ℕ) → List ℕ → List ℕ
 printed-by t input = answered t (asked input)
@@ -40,12 +40,30 @@ printed input = printed-by split-of input
 
 -- ---- the call, which puts this into a room
 
-pub record Outcome : Type 0 where
+-- what it leaves
+pub record Printing : Type 0 where
   pub answer : Printed
   pub room : List ℕ
 
--- a room of fewer than 262,144 bytes, which every file fits into, stays as it came
-unfoldable pub filed : List ℕ → List ℕ → Outcome
+abbrev pub printing : Printed → List ℕ → Printing
+printing answer room = record { answer = answer; room = room }
+
+-- every file fits into a room of this length
+abbrev pub file-room : ℕ
+file-room = 262144
+
+-- a shorter room stays as it came
+unfoldable pub filed : List ℕ → List ℕ → Printing
 filed input room =
-    cond (ltb (length room) 262144) (record { answer = Short; room = room })
-    (record { answer = Bytes (length (printed input)); room = over (printed input) room })
+    cond (ltb (length room) file-room) (printing Short room)
+    (printing (Bytes (length (printed input))) (sets room 0 (printed input)))
+
+-- how many bytes an answer counts
+abbrev pub bytes-counted : Printed → ℕ
+bytes-counted (Bytes n) = n
+bytes-counted Short = 0
+
+-- what the call promises: this, and that the bytes lie in the room
+pub record Files (input room : List ℕ) (answer : Printed) (room′ : List ℕ) : Type 0 where
+  pub left : printing answer room′ ≡ filed input room
+  pub within : bytes-counted answer ≤ length room

@@ -10,7 +10,8 @@ use lib.Dec.{eqb}
 use borrow.Author.Tests.{eq-eqb, ne-eqb}
 use Rattle.cnf.specs.Clause.{Literal, Clause, negation, new}
 use Rattle.product.specs.Bit.{Bit, fixed, unfixed, flip}
-use Rattle.product.specs.Column.{fixed-sum, literals, odd, Pair, none, equal, opposite, pair-by, pair-or, first-pair, parity, sum, both, either, most, carry, sum-of, carry-of, carry-unless, Made, plain, column}
+use Rattle.product.specs.Column.{fixed-sum, literals, is-odd, Pair, none, equal, opposite, pair-by, pair-or, first-pair, parity, sum-made}
+use Rattle.product.specs.Column.{both, either, most, carry-made, sum-of, carry-of, carry-unless, Made, plain, column}
 use Rattle.product.proofs.AnyPair.{Alike}
 use Rattle.product.proofs.Nexts.{carry-unless-grows}
 use Rattle.product.proofs.ColumnMeans.{sum-remains, sum-flips}
@@ -21,8 +22,9 @@ use Rattle.write.specs.declared.column.Inputs.{Inputs}
 use Rattle.write.specs.declared.column.Inputs.the-variants.{Equal, Opposite, Two, Three}
 use Rattle.gates.specs.declared.Gate.the-variants.{Empty, ParityOfTwo, ParityOfThree, Both, Most}
 use Rattle.write.specs.declared.column.MadeBit.{MadeBit}
-use Rattle.gates.proofs.Codes.{sign-even, sign-odd, even-or-odd, literal-negated, literal-new, new-flipped, flipped-odd, bit-zero, bit-fixed, bit-literal, bit-new, bit-negated}
-use Rattle.gates.proofs.GateWords.{flips-false, not-twice}
+use Rattle.gates.proofs.Codes.{sign-even, sign-odd, even-or-odd, literal-negated, literal-new, new-flipped, flipped-odd, bit-zero}
+use Rattle.gates.proofs.Codes.{bit-fixed, bit-literal, bit-new, bit-negated}
+use Rattle.cnf.proofs.Flips.{flips-false, not-twice}
 
 -- ---- pairs of any bits: two fixed bits are a pair too
 
@@ -36,7 +38,7 @@ any-first-pair l r c = any-pair-or l r c (any-pair-or l c r (any-pair-or r c l n
 
 -- two fixed bits taken as a pair give the sum and the carry of document 01's cases
 any-pair-alike : (l r c : Bit) → Alike (l ∷ r ∷ c ∷ []) (any-first-pair l r c) (first-pair l r c)
-unfolding sum carry sum-of carry-of
+unfolding sum-made carry-made sum-of carry-of
 any-pair-alike (fixed true) (fixed true) (fixed true) n = (refl, refl)
 any-pair-alike (fixed true) (fixed true) (fixed false) n = (refl, refl)
 any-pair-alike (fixed true) (fixed false) (fixed true) n = (refl, refl)
@@ -151,11 +153,11 @@ module _ (l r c : ℕ) where
         no-pair = any-pair-no l r (bit-of c) _ lr ∙ any-pair-no l c (bit-of r) _ lc ∙ any-pair-no r c (bit-of l) none rc
 
         by-counts : (i : Inputs) (f : ℕ) (ps : List Literal) → fixed-sum bits ≡ f → literals bits ≡ ps
-            → ((n : ℕ) → inputs-sum i n ≡ sum f ps n) → ((n : ℕ) → inputs-carry i n ≡ carry f ps n) → FixedFew i → seen i
+            → ((n : ℕ) → inputs-sum i n ≡ sum-made f ps n) → ((n : ℕ) → inputs-carry i n ≡ carry-made f ps n) → FixedFew i → seen i
         unfolding sum-of carry-of
         by-counts i f ps e g s t few =
-            sees i none no-pair (λ n. s n ∙ sym (ap₂ (λ (k : ℕ) (qs : List Literal). sum k qs n) e g))
-            (λ n. t n ∙ sym (ap₂ (λ (k : ℕ) (qs : List Literal). carry k qs n) e g)) few
+            sees i none no-pair (λ n. s n ∙ sym (ap₂ (λ (k : ℕ) (qs : List Literal). sum-made k qs n) e g))
+            (λ n. t n ∙ sym (ap₂ (λ (k : ℕ) (qs : List Literal). carry-made k qs n) e g)) few
 
         pub left-fixed : l < 2 → seen (Two l r c)
         left-fixed h =
@@ -191,8 +193,10 @@ module _ (l r c : ℕ) where
 -- ---- the sum
 
 -- the parity that a gate names by the code of its new variable
-parity-flipped : (ps : List Literal) (f z : ℕ) → parity ps (literal-of (flipped-code (2 * z) f) .negated) (literal-of (flipped-code (2 * z) f) .variable) ≡ parity ps (odd f) z
-parity-flipped ps f z = ap (λ (l : Literal). parity ps (l .negated) (l .variable)) (new-flipped z f) ∙ ap (λ (o : Bool). parity ps o z) (flips-false (odd f))
+parity-flipped : (ps : List Literal) (f z : ℕ)
+    → parity ps (literal-of (flipped-code (2 * z) f) .negated) (literal-of (flipped-code (2 * z) f) .variable) ≡ parity ps (is-odd f) z
+parity-flipped ps f z =
+    ap (λ (l : Literal). parity ps (l .negated) (l .variable)) (new-flipped z f) ∙ ap (λ (o : Bool). parity ps o z) (flips-false (is-odd f))
 
 pub plain-is : (b z : ℕ) (k : Bit) → bit-of b ≡ k → MatchesBit z (record { bit = b; gate = Empty; next = z }) (plain k z)
 plain-is b z k e = record { bit = e; clauses = refl; next = refl; grows = omega arith }
@@ -201,15 +205,16 @@ pub bit-flipped-by-1 : (b : ℕ) → bit-of (flipped-code b 1) ≡ flip (bit-of 
 bit-flipped-by-1 b = ap (λ (x : ℕ). bit-of x) (flipped-odd b 1 refl) ∙ bit-negated b
 
 pub sum-two-is : (p q f z : ℕ) → 0 < z
-    → MatchesBit z (record { bit = 2 * z; gate = ParityOfTwo p q (flipped-code (2 * z) f); next = z + 1 }) (sum f (literal-of p ∷ literal-of q ∷ []) z)
-unfolding sum
+    → MatchesBit z (record { bit = 2 * z; gate = ParityOfTwo p q (flipped-code (2 * z) f); next = z + 1 })
+    (sum-made f (literal-of p ∷ literal-of q ∷ []) z)
+unfolding sum-made
 sum-two-is p q f z h =
     record { bit = bit-new z h; clauses = parity-flipped (literal-of p ∷ literal-of q ∷ []) f z; next = add-one z; grows = omega arith }
 
 pub sum-three-is : (p q r z : ℕ) → 0 < z
     → MatchesBit z (record { bit = 2 * z; gate = ParityOfThree p q r (2 * z); next = z + 1 })
-    (sum 0 (literal-of p ∷ literal-of q ∷ literal-of r ∷ []) z)
-unfolding sum
+    (sum-made 0 (literal-of p ∷ literal-of q ∷ literal-of r ∷ []) z)
+unfolding sum-made
 sum-three-is p q r z h =
     record {
       bit = bit-new z h;
@@ -228,10 +233,16 @@ unfolding both either
 both-negated p q t = simp negation-twice
 
 pub carry-two-is : (p q f t : ℕ) → f ≤ 1 → 0 < t
-    → MatchesBit t (record { bit = 2 * t; gate = Both (flipped-code p f) (flipped-code q f) (flipped-code (2 * t) f); next = t + 1 }) (carry f (literal-of p ∷ literal-of q ∷ []) t)
-unfolding carry flipped-code
+    → MatchesBit t (record { bit = 2 * t; gate = Both (flipped-code p f) (flipped-code q f) (flipped-code (2 * t) f); next = t + 1 })
+    (carry-made f (literal-of p ∷ literal-of q ∷ []) t)
+unfolding carry-made flipped-code
 carry-two-is p q zero t h k =
-    record { bit = bit-new t k; clauses = ap (λ (l : Literal). both (literal-of p) (literal-of q) l) (literal-new t); next = add-one t; grows = omega arith }
+    record {
+      bit = bit-new t k;
+      clauses = ap (λ (l : Literal). both (literal-of p) (literal-of q) l) (literal-new t);
+      next = add-one t;
+      grows = omega arith;
+    }
 carry-two-is p q (suc zero) t h k =
     record {
       bit = bit-new t k;
@@ -243,23 +254,28 @@ carry-two-is p q (suc (suc f)) t h k = absurd (omega arith)
 
 pub carry-three-is : (p q r t : ℕ) → 0 < t
     → MatchesBit t (record { bit = 2 * t; gate = Most p q r (2 * t); next = t + 1 })
-    (carry 0 (literal-of p ∷ literal-of q ∷ literal-of r ∷ []) t)
-unfolding carry
+    (carry-made 0 (literal-of p ∷ literal-of q ∷ literal-of r ∷ []) t)
+unfolding carry-made
 carry-three-is p q r t k =
-    record { bit = bit-new t k; clauses = ap (λ (l : Literal). most (literal-of p) (literal-of q) (literal-of r) l) (literal-new t); next = add-one t; grows = omega arith }
+    record {
+      bit = bit-new t k;
+      clauses = ap (λ (l : Literal). most (literal-of p) (literal-of q) (literal-of r) l) (literal-new t);
+      next = add-one t;
+      grows = omega arith;
+    }
 
 -- ---- a bit of two or three unfixed inputs is a new variable: where the next free one is at most k, it is below k
 
 pub sum-opens-two : {i : Inputs} {f p q : ℕ} (z k : ℕ) → i ≡ Two f p q → inputs-sum i z .next ≤ k → z < k
-unfolding sum
+unfolding sum-made
 sum-opens-two z k e h = rw e at h
 
 pub sum-opens-three : {i : Inputs} {p q r : ℕ} (z k : ℕ) → i ≡ Three p q r → inputs-sum i z .next ≤ k → z < k
-unfolding sum
+unfolding sum-made
 sum-opens-three z k e h = rw e at h
 
-carry-opens : (f t : ℕ) (p q : Literal) → carry f (p ∷ q ∷ []) t .next ≡ suc t
-unfolding carry
+carry-opens : (f t : ℕ) (p q : Literal) → carry-made f (p ∷ q ∷ []) t .next ≡ suc t
+unfolding carry-made
 carry-opens zero t p q = refl
 carry-opens (suc f) t p q = refl
 
@@ -268,7 +284,7 @@ carry-opens-two {f = f} {p} {q} t k e h =
     omega (arith, h, ap (λ (j : Inputs). inputs-carry j t .next) e, carry-opens f t (literal-of p) (literal-of q))
 
 pub carry-opens-three : {i : Inputs} {p q r : ℕ} (t k : ℕ) → i ≡ Three p q r → inputs-carry i t .next ≤ k → t < k
-unfolding carry
+unfolding carry-made
 carry-opens-three t k e h = rw e at h
 
 -- ---- the column
@@ -292,7 +308,8 @@ module _ (l r c z : ℕ) (i : Inputs) (s : MadeBit) (v : Sees i (bit-of l) (bit-
   sum-is : MatchesBit z s (sum-of (pair l r c) (bits l r c) z)
   sum-is = subst (λ (k : Made). MatchesBit z s k) (v .sum z) m
 
-  pub last-column-is : MatchesColumn z (record { sum = s .bit; carry = 0; next = s .next; parity = s .gate; majority = Empty }) (column (bit-of l) (bit-of r) (bit-of c) true z)
+  pub last-column-is : MatchesColumn z (record { sum = s .bit; carry = 0; next = s .next; parity = s .gate; majority = Empty })
+      (column (bit-of l) (bit-of r) (bit-of c) true z)
   unfolding column carry-unless column-clauses
   last-column-is =
       record {
@@ -304,7 +321,8 @@ module _ (l r c z : ℕ) (i : Inputs) (s : MadeBit) (v : Sees i (bit-of l) (bit-
       }
 
   pub column-is : (t : MadeBit) → MatchesBit (s .next) t (inputs-carry i (s .next))
-      → MatchesColumn z (record { sum = s .bit; carry = t .bit; next = t .next; parity = s .gate; majority = t .gate }) (column (bit-of l) (bit-of r) (bit-of c) false z)
+      → MatchesColumn z (record { sum = s .bit; carry = t .bit; next = t .next; parity = s .gate; majority = t .gate })
+      (column (bit-of l) (bit-of r) (bit-of c) false z)
   unfolding column carry-unless column-clauses
   column-is t m₂ =
       let u = subst (λ (n : ℕ). MatchesBit (s .next) t (carry-of (pair l r c) (bits l r c) n)) (sum-is .next)

@@ -1,4 +1,4 @@
--- One pass: x in the scratch room, and from the lines to the product; what two passes make of the rooms.
+-- One pass: x in the scratch room, and from the lines to the product; what two passes make of the rooms. Assumes nothing.
 use Prim.Native.Nat.{ℕ, zero, suc, _+_, _-_, _*_, _<_, _≤_}
 use mathlib.Core.Path.{_≡_, refl, sym, ap, ap₂, subst, _∙_}
 use mathlib.Core.Bool.{Bool, true, false, cond}
@@ -11,106 +11,104 @@ use lib.IntN.{ℤ, pos}
 use lib.ListN.{length, getD, take, drop, length-map, replicate, getD-replicate, length-replicate, List·getD-map, List·getD-eq-default}
 use lib.Seq.{sets, ext-getD}
 use native.Mathlib.Decide.{decLt}
-use borrow.Author.Tests.{lt-ltb, le-ltb}
+use Rattle.line.specs.Limits.{most-next}
+use Rattle.line.specs.Order.{first-broken, answer-by}
+use Rattle.line.specs.declared.Line.{Line}
+use Rattle.line.specs.declared.Refusal.{Refusal}
+use Rattle.line.specs.declared.Verdict.{Verdict}
+use Rattle.line.specs.declared.Verdict.the-variants.{Kept, Broken}
+use Rattle.cnf.specs.Clause.{Clause}
 use Rattle.cnf.specs.Words.{word, words}
-use Rattle.line.specs.declared.Refusal.the-variants.{BitRoom, ClauseRoom, Variables}
 use Rattle.product.specs.Bit.{Bit, fixed, given, numbered, stored}
 use Rattle.product.specs.Lines.{shifted, columns, Encoded, encoded}
-use Rattle.product.specs.Product.{last, Product, product, lines-from, y-entries, clause-words}
-use Rattle.gates.specs.Code.{literal-of, bit-of, bits-of, code-of-word}
-use Rattle.write.specs.Terms.{table, shifted-code, operand-at, given-code, plain-literal, y-entry}
-use Rattle.write.specs.Rooms.{Writable, LinesAre, CountsAre, CanPass, PassIs, CanWrite}
-use Rattle.product.specs.Write.{unfit, most-next, Outcome, product-written}
-use Rattle.write.specs.declared.lines.Place.{Place}
+use Rattle.product.specs.Product.{last-or, Product, product-made, lines-from, clause-words}
+use Rattle.product.specs.Write.{unfit, product-tests, clauses-of-product, Writing, writing, write-by, product-written}
 use Rattle.product.specs.declared.Written.{Written}
 use Rattle.product.specs.declared.Written.the-variants.{Clauses, Refused}
 use Rattle.product.proofs.Lengths.{length-operands, length-lines}
 use Rattle.product.proofs.Nexts.{Narrow, encoded-few}
-use Rattle.product.proofs.Given.{fit-of, unfit-of, length-given, length-numbered, numbered-fit, counts-as-numbered}
+use Rattle.product.proofs.Given.{fit-of, length-given, length-numbered, counts-as-numbered}
+use Rattle.product.proofs.Tests.{kept-fits}
+use Rattle.gates.specs.Code.{literal-of, bit-of, bits-of, code-of-word}
 use Rattle.gates.proofs.Codes.{bit-zero, stored-word}
 use Rattle.gates.proofs.Given.{bits-given}
-use Rattle.gates.proofs.Stores.{over-front}
-use Rattle.write.proofs.Tables.{length-table, table-at, take-sets}
+use Rattle.line.proofs.Room.{take-sets, sets-above}
+use Rattle.write.specs.Terms.{listed, shifted-code, operand-at, given-code, plain-literal, y-entry}
+use Rattle.write.specs.Rooms.{Writable, LinesAre, CountsAre, PassIs}
+use Rattle.write.specs.declared.lines.Place.{Place}
+use Rattle.write.proofs.Tables.{length-listed, listed-at}
 use Rattle.write.proofs.CodeTerms.{shifted-at}
-use Rattle.write.proofs.CodeLines.{sets-above, operand-bits}
+use Rattle.write.proofs.CodeLines.{operand-bits}
+use Rattle.write.specs.Sizes.{most-columns, scratch-size}
 
 -- ---- x
-
-pub table-of-list : (x : List ℕ) → table (λ (j : ℕ). getD x j 0) (length x) ≡ x
-table-of-list x =
-    let f : ℕ → ℕ = λ (j : ℕ). getD x j 0 in
-    ext-getD 0 (table f (length x)) x (length-table f (length x)) (λ j h. table-at f (length x) j 0 (omega (arith, length-table f (length x))))
 
 numbered-snoc : (v w : ℕ) → numbered v (suc w) ≡ numbered v w ++ (pos (v + w) ∷ [])
 unfolding numbered
 numbered-snoc v zero = ap (λ (k : ℕ). pos k ∷ []) (sym (add-zero v))
 numbered-snoc v (suc w) =
-    ap (λ (l : List ℤ). pos v ∷ l) (numbered-snoc (suc v) w ∙ ap (λ (k : ℕ). numbered (suc v) w ++ (pos k ∷ [])) (suc-add v w ∙ sym (add-suc v w)))
+    ap (λ (l : List ℤ). pos v ∷ l)
+    (numbered-snoc (suc v) w ∙ ap (λ (k : ℕ). numbered (suc v) w ++ (pos k ∷ [])) (suc-add v w ∙ sym (add-suc v w)))
 
 numbered-none : [] ≡ numbered 1 0
 unfolding numbered
 numbered-none = refl
 
 -- document 01's x as literals, and in the front of a room
-plain-literals : (w : ℕ) → table plain-literal w ≡ numbered 1 w
-unfolding table
+plain-literals : (w : ℕ) → listed plain-literal w ≡ numbered 1 w
+unfolding listed
 plain-literals zero = numbered-none
 plain-literals (suc w) = ap₂ (λ (l : List ℤ) (k : ℕ). l ++ (pos k ∷ [])) (plain-literals w) (omega arith) ∙ sym (numbered-snoc 1 w)
 
-pub plain-front : (w : ℕ) (x : List ℤ) → w ≤ 16 → x ≡ sets (replicate 16 (pos 0)) 0 (table plain-literal w) → take w x ≡ numbered 1 w
-plain-front w x h e =
-    ap (λ (l : List ℤ). take w l) e
-    ∙ (take-sets (replicate 16 (pos 0)) (table plain-literal w) w (length-table plain-literal w) (omega (arith, length-replicate {A = ℤ} 16 (pos 0))) ∙ plain-literals w)
-
 -- given literals as codes
-pub given-bits : (first : ℕ) (x : List ℤ) → unfit first x ≡ false → bits-of (table (given-code x) (length x)) ≡ given x
+given-bits : (first : ℕ) (x : List ℤ) → unfit first x ≡ false → bits-of (listed (given-code x) (length x)) ≡ given x
 given-bits first x e =
     let f = given-code x in
     let n = length x in
     ap (λ (l : List ℕ). bits-of l)
-    (ext-getD 0 (table f n) (map code-of-word x) (length-table f n ∙ sym (length-map x code-of-word)) (λ j h.
-    table-at f n j 0 (omega (arith, length-table f n)) ∙ sym (List·getD-map code-of-word x j (pos 0))))
+    (ext-getD 0 (listed f n) (map code-of-word x) (length-listed f n ∙ sym (length-map x code-of-word)) (λ j h.
+    listed-at f n j 0 (omega (arith, length-listed f n)) ∙ sym (List·getD-map code-of-word x j (pos 0))))
     ∙ bits-given first x (fit-of first x e)
 
 -- x over zeros: it stands in the front, and behind it all is zero
 abbrev blank : List ℕ
-blank = replicate 1188 0
+blank = replicate scratch-size 0
 
-length-blank : length blank ≡ 1188
-length-blank = length-replicate {A = ℕ} 1188 0
+length-blank : length blank ≡ scratch-size
+length-blank = length-replicate {A = ℕ} scratch-size 0
 
-pub x-in-front : (x : List ℕ) → length x ≤ 1188 → take (length x) (sets blank 0 x) ≡ x
-x-in-front x h = take-sets blank x (length x) refl (omega (arith, length-blank))
-
-pub zeros-behind : (x : List ℕ) (j : ℕ) → length x ≤ j → getD (sets blank 0 x) j 0 ≡ 0
-zeros-behind x j h = sets-above blank x 0 j 0 (omega arith) ∙ go (decLt j 1188)
+zeros-behind : (x : List ℕ) (j : ℕ) → length x ≤ j → getD (sets blank 0 x) j 0 ≡ 0
+zeros-behind x j h = sets-above blank x 0 j 0 (omega arith) ∙ go (decLt j scratch-size)
   where
-    go : Dec (j < 1188) → _≡_ {A = ℕ} (getD blank j 0) 0
-    go (yes q) = getD-replicate 1188 j 0 0 q
+    go : Dec (j < scratch-size) → _≡_ {A = ℕ} (getD blank j 0) 0
+    go (yes q) = getD-replicate scratch-size j 0 0 q
     go (no q) = List·getD-eq-default blank 0 {n = j} (omega (arith, length-blank))
 
--- document 01's x in the front of x, and its codes over zeros
-module _ (w : ℕ) (x : List ℤ) (few : w ≤ 16) (e : take w x ≡ numbered 1 w) where
+-- the codes of given literals over zeros
+module _ (first : ℕ) (x : List ℤ) (few : length x ≤ 16) (fit : unfit first x ≡ false)
+    (codes : List ℕ) (is : codes ≡ sets blank 0 (listed (given-code x) (length x))) where
+  long : length (listed (given-code x) (length x)) ≡ length x
+  long = length-listed (given-code x) (length x)
+
+  pub x-bits : bits-of (take (length x) codes) ≡ given x
+  x-bits =
+      ap (λ (l : List ℕ). bits-of (take (length x) l)) is
+      ∙ ap (λ (l : List ℕ). bits-of l) (take-sets blank (listed (given-code x) (length x)) (length x) long (omega (arith, length-blank)))
+      ∙ given-bits first x fit
+
+  pub x-behind : (j : ℕ) → length x ≤ j → getD codes j 0 ≡ 0
+  x-behind j h = ap (λ (l : List ℕ). getD l j 0) is ∙ zeros-behind (listed (given-code x) (length x)) j (omega (arith, long))
+
+-- document 01's x in the front of an array
+module _ (w : ℕ) (x : List ℤ) (few : w ≤ 16) (e : x ≡ sets (replicate 16 (pos 0)) 0 (listed plain-literal w)) where
+  pub plain-front : take w x ≡ numbered 1 w
+  plain-front =
+      ap (λ (l : List ℤ). take w l) e
+      ∙ (take-sets (replicate 16 (pos 0)) (listed plain-literal w) w (length-listed plain-literal w)
+      (omega (arith, length-replicate {A = ℤ} 16 (pos 0))) ∙ plain-literals w)
+
   pub plain-long : length (take w x) ≡ w
-  plain-long = ap (λ (l : List ℤ). length l) e ∙ length-numbered 1 w
-
-  pub plain-fit : unfit (w + 1) (take w x) ≡ false
-  plain-fit = ap₂ (λ (n : ℕ) (l : List ℤ). unfit n l) (add-one w) e ∙ unfit-of (suc w) (numbered 1 w) (numbered-fit w)
-
-  module _ (codes : List ℕ) (is : codes ≡ sets blank 0 (table (given-code (take w x)) (length (take w x)))) where
-    abbrev t : List ℕ
-    t = table (given-code (take w x)) (length (take w x))
-
-    long : length t ≡ w
-    long = length-table (given-code (take w x)) (length (take w x)) ∙ plain-long
-
-    pub plain-bits : bits-of (take w codes) ≡ given (numbered 1 w)
-    plain-bits =
-        let front : take w codes ≡ t = ap₂ (λ (n : ℕ) (l : List ℕ). take n l) (sym long) is ∙ x-in-front t (omega (arith, long)) in
-        ap (λ (l : List ℕ). bits-of l) front ∙ (given-bits (w + 1) (take w x) plain-fit ∙ ap (λ (l : List ℤ). given l) e)
-
-    pub plain-behind : (j : ℕ) → w ≤ j → getD codes j 0 ≡ 0
-    plain-behind j h = ap (λ (l : List ℕ). getD l j 0) is ∙ zeros-behind t j (omega (arith, long))
+  plain-long = ap (λ (l : List ℤ). length l) plain-front ∙ length-numbered 1 w
 
 -- ---- y
 
@@ -123,159 +121,162 @@ entry-is bits t j = go (ltb j t)
     go false = sym (stored-word (getD bits (j - t) 0))
 
 -- y's entries, of bits that stand as codes in 36 entries
-y-means : (bits : List ℕ) (o : List Bit) (t size : ℕ) → size ≤ t + 36 → size ≡ length (shifted t o) → ((k : ℕ) → k < 36 → bit-of (getD bits k 0) ≡ getD o k (fixed false))
-    → table (y-entry bits t) size ≡ map stored (shifted t o)
+y-means : (bits : List ℕ) (o : List Bit) (t size : ℕ) → size ≤ t + most-columns → size ≡ length (shifted t o)
+    → ((k : ℕ) → k < most-columns → bit-of (getD bits k 0) ≡ getD o k (fixed false))
+    → listed (y-entry bits t) size ≡ map stored (shifted t o)
 y-means bits o t size small e f =
     let y = shifted t o in
-    let long = length-table (y-entry bits t) size in
-    ext-getD (pos 0) (table (y-entry bits t) size) (map stored y) (long ∙ (e ∙ sym (length-map y stored)))
+    let long = length-listed (y-entry bits t) size in
+    ext-getD (pos 0) (listed (y-entry bits t) size) (map stored y) (long ∙ (e ∙ sym (length-map y stored)))
     (λ j h.
     let q : j < size = omega (arith, long) in
-    table-at (y-entry bits t) size j (pos 0) q
-    ∙ (entry-is bits t j ∙ (ap stored (shifted-at bits o t j 36 f (omega arith)) ∙ sym (List·getD-map stored y j (fixed false)))))
+    listed-at (y-entry bits t) size j (pos 0) q
+    ∙ (entry-is bits t j ∙ (ap stored (shifted-at bits o t j most-columns f (omega arith)) ∙ sym (List·getD-map stored y j (fixed false)))))
 
 -- ---- the product of a pass
 
 -- the last of n + 1, whatever the default
-last-at : {A : Type 0} (d e : A) (xs : List A) (n : ℕ) → length xs ≡ n + 1 → last d xs ≡ getD xs n e
+last-at : {A : Type 0} (d e : A) (xs : List A) (n : ℕ) → length xs ≡ n + 1 → last-or d xs ≡ getD xs n e
 last-at d e [] n h = absurd (omega arith)
 last-at d e (x ∷ []) zero h = refl
 last-at d e (x ∷ []) (suc n) h = absurd (omega arith)
 last-at d e (x ∷ y ∷ xs) zero h = absurd (omega arith)
 last-at d e (x ∷ y ∷ xs) (suc n) h = last-at x e (y ∷ xs) n (omega arith)
 
-module _ (recipe : List ℕ) (n : ℕ) (x : List ℕ) (next t : ℕ) where
+module _ (recipe : List ℕ) (n : ℕ) (x : List ℤ) (first t : ℕ) where
   abbrev Lines-made : Encoded
-  Lines-made = encoded (columns (length x)) (lines-from recipe 0 n) (bits-of x ∷ []) next
+  Lines-made = encoded (columns (length x)) (lines-from recipe 0 n) (given x ∷ []) first
 
   abbrev Product-made : Product
-  Product-made = product t (lines-from recipe 0 n) (bits-of x) next
+  Product-made = product-made t (lines-from recipe 0 n) (given x) first
 
-  product-is : Product-made ≡ record { y = shifted t (last [] (Lines-made .operands)); clauses = Lines-made .clauses; next = Lines-made .next }
-  unfolding product
+  product-is : Product-made
+      ≡ record { y = shifted t (last-or [] (Lines-made .operands)); clauses = Lines-made .clauses; next = Lines-made .next }
+  unfolding product-made
   product-is =
       ap (λ (k : ℕ).
-      let e : Encoded = encoded (columns k) (lines-from recipe 0 n) (bits-of x ∷ []) next in
-      record { y = shifted t (last [] (e .operands)); clauses = e .clauses; next = e .next }) (length-map x bit-of)
+      let e : Encoded = encoded (columns k) (lines-from recipe 0 n) (given x ∷ []) first in
+      record { y = shifted t (last-or [] (e .operands)); clauses = e .clauses; next = e .next }) (length-given x)
 
-  pub pass-is : (size : ℕ) (r : Place) (scratch : List ℕ) (y y′ room room′ : List ℤ) → LinesAre Lines-made next r scratch room room′ → 0 < next
-      → size ≤ t + 36 → size ≡ length (Product-made .y)
-      → (size ≤ length y → y′ ≡ sets y 0 (table (y-entry (take (36 * n + 36 - 36 * n) (drop (36 * n) scratch)) t) size))
-      → PassIs Product-made size r y y′ room room′
-  unfolding operand-at
-  pass-is size r scratch y y′ room room′ l h small es f =
-      let long : length (Lines-made .operands) ≡ n + 1 = omega (arith, length-operands (columns (length x)) (lines-from recipe 0 n) (bits-of x ∷ []) next, length-lines recipe 0 n) in
-      let es′ : size ≡ length (shifted t (last [] (Lines-made .operands))) = es ∙ ap (λ (k : Product). length (k .y)) product-is in
-      let e36 : 36 * n + 36 - 36 * n ≡ 36 = omega arith in
-      let la : last [] (Lines-made .operands) ≡ getD (Lines-made .operands) n [] = last-at [] [] (Lines-made .operands) n long in
-      let ye : table (y-entry (take (36 * n + 36 - 36 * n) (drop (36 * n) scratch)) t) size ≡ map stored (shifted t (last [] (Lines-made .operands))) =
-      ap (λ (k : ℕ). table (y-entry (take k (drop (36 * n) scratch)) t) size) e36
-      ∙ y-means (operand-at scratch n) (last [] (Lines-made .operands)) t size small es′
-      (λ k q. operand-bits scratch (Lines-made .operands) (l .held) n (omega (arith, long)) k q ∙ ap (λ (o : List Bit). getD o k (fixed false)) (sym la)) in
-      subst (λ (k : Product). PassIs k size r y y′ room room′) (sym product-is)
-      (record {
-        next-is = l .next-is;
-        next-pos = omega (arith, l .grows);
-        words-are = l .words-are;
-        clauses-are = l .clauses-are;
-        room-is = l .room-is;
-        y-is = λ q. f q ∙ ap (λ (o : List ℤ). sets y 0 o) ye;
-      })
+  module _ (codes : List ℕ) (front : bits-of (take (length x) codes) ≡ given x) where
+    abbrev Codes-made : Encoded
+    Codes-made = encoded (columns (length x)) (lines-from recipe 0 n) (bits-of (take (length x) codes) ∷ []) first
 
-  -- what the pass asks of the lines
-  pub lines-fit : (k : ℕ) (scratch : List ℕ) → take (length x) scratch ≡ x → Product-made .next ≤ k
-      → encoded (columns (length x)) (lines-from recipe 0 n) (bits-of (take (length x) scratch) ∷ []) next .next ≤ k
-  lines-fit k scratch e h =
-      subst (λ (l : List ℕ). encoded (columns (length x)) (lines-from recipe 0 n) (bits-of l ∷ []) next .next ≤ k) (sym e)
-      (subst (λ (p : Product). p .next ≤ k) product-is h)
+    codes-made : Codes-made ≡ Lines-made
+    codes-made = ap (λ (b : List Bit). encoded (columns (length x)) (lines-from recipe 0 n) (b ∷ []) first) front
+
+    -- what the pass asks of the lines
+    pub lines-fit : (k : ℕ) → Product-made .next ≤ k → Codes-made .next ≤ k
+    lines-fit k h = omega (arith, h, ap (λ (e : Encoded). e .next) codes-made, ap (λ (p : Product). p .next) product-is)
+
+    pub pass-is : (size : ℕ) (r : Place) (scratch : List ℕ) (y y′ room room′ : List ℤ) → LinesAre Codes-made first r scratch room room′
+        → size ≤ t + most-columns
+        → (size ≤ length y
+        → y′ ≡ sets y 0
+        (listed (y-entry (take (most-columns * n + most-columns - most-columns * n) (drop (most-columns * n) scratch)) t) size))
+        → PassIs Product-made first size r y y′ room room′
+    unfolding operand-at
+    pass-is size r scratch y y′ room room′ made small f =
+        let l : LinesAre Lines-made first r scratch room room′ =
+        subst (λ (e : Encoded). LinesAre e first r scratch room room′) codes-made made in
+        let ops = Lines-made .operands in
+        let long : length ops ≡ n + 1 =
+        omega (arith, length-operands (columns (length x)) (lines-from recipe 0 n) (given x ∷ []) first, length-lines recipe 0 n) in
+        let e36 : most-columns * n + most-columns - most-columns * n ≡ most-columns = omega arith in
+        let la : last-or [] ops ≡ getD ops n [] = last-at [] [] ops n long in
+        let ye : size ≡ length (shifted t (last-or [] ops))
+        → listed (y-entry (take (most-columns * n + most-columns - most-columns * n) (drop (most-columns * n) scratch)) t) size
+        ≡ map stored (shifted t (last-or [] ops)) = λ es.
+        ap (λ (k : ℕ). listed (y-entry (take k (drop (most-columns * n) scratch)) t) size) e36
+        ∙ y-means (operand-at scratch n) (last-or [] ops) t size small es
+        (λ k q. operand-bits scratch ops (l .held) n (omega (arith, long)) k q ∙ ap (λ (o : List Bit). getD o k (fixed false)) (sym la)) in
+        subst (λ (k : Product). PassIs k first size r y y′ room room′) (sym product-is)
+        (record {
+          counts = record { next-is = l .next-is; words-are = l .words-are; clauses-are = l .clauses-are; grows = l .grows };
+          room-is = l .room-is;
+          y-is = λ es q. f q ∙ ap (λ (o : List ℤ). sets y 0 o) (ye es);
+        })
 
 -- ---- the pass that counts
 
-narrow-from : (w : ℕ) (recipe : List ℕ) (m i n : ℕ) → i + m ≤ n → Writable w recipe n → Narrow (columns w) 36 (lines-from recipe i m)
+narrow-from : (w : ℕ) (recipe : List ℕ) (m i n : ℕ) → i + m ≤ n → Writable w recipe n
+    → Narrow (columns w) most-columns (lines-from recipe i m)
 unfolding lines-from
 narrow-from w recipe zero i n h ok = tt
 narrow-from w recipe (suc m) i n h ok = (ok .columns i (omega arith), narrow-from w recipe m (suc i) n (omega arith) ok)
 
 -- it starts low, so it stays low
-pub count-fits : (w : ℕ) (recipe : List ℕ) (n : ℕ) (x : List Bit) → w ≤ 16 → Writable w recipe n → encoded (columns w) (lines-from recipe 0 n) (x ∷ []) (w + 1) .next ≤ most-next
-count-fits w recipe n x h ok =
+pub count-fits : (recipe : List ℕ) (n : ℕ) (x : List ℤ) → length x ≤ 16 → Writable (length x) recipe n
+    → product-made 0 (lines-from recipe 0 n) (given x) (length x + 1) .next ≤ most-next
+count-fits recipe n x h ok =
+    let w : ℕ = length x in
     omega (
       arith,
-      encoded-few (columns w) 36 (lines-from recipe 0 n) (x ∷ []) (w + 1) (narrow-from w recipe n 0 n (omega arith) ok),
+      encoded-few (columns w) most-columns (lines-from recipe 0 n) (given x ∷ []) (w + 1) (narrow-from w recipe n 0 n (omega arith) ok),
       length-lines recipe 0 n,
       ok .few,
+      ap (λ (p : Product). p .next) (product-is recipe n x (w + 1) 0),
     )
 
 -- what it counts is what the product over given literals needs
 pub record Needs (first : ℕ) (x : List ℤ) (p : Product) (r : Place) : Type 0 where
   pub next : first + r .next - (length x + 1) ≡ p .next
   pub words : r .words ≡ length (clause-words p)
+  pub first-below : first ≤ p .next
+
+-- the zeros below y change nothing else
+any-shift : (ls : List Line) (bs : List Bit) (m t u : ℕ)
+    → (product-made t ls bs m .next ≡ product-made u ls bs m .next) × (product-made t ls bs m .clauses ≡ product-made u ls bs m .clauses)
+unfolding product-made
+any-shift ls bs m t u = (refl, refl)
 
 pub needs-of : (recipe : List ℕ) (n t first : ℕ) (x : List ℤ) (r : Place) → 0 < first → unfit first x ≡ false
-    → CountsAre (encoded (columns (length x)) (lines-from recipe 0 n) (given (numbered 1 (length x)) ∷ []) (length x + 1)) (length x + 1) r
-    → Needs first x (product t (lines-from recipe 0 n) (given x) first) r
-unfolding product
+    → CountsAre (product-made 0 (lines-from recipe 0 n) (given (numbered 1 (length x))) (length x + 1)) (length x + 1) r
+    → Needs first x (product-made t (lines-from recipe 0 n) (given x) first) r
 needs-of recipe n t first x r h e k =
     let w : ℕ = length x in
     let ls = lines-from recipe 0 n in
+    let P : ℕ → Product = λ (m : ℕ). product-made 0 ls (given (numbered 1 w)) m in
     let c = counts-as-numbered x first h (fit-of first x e) t ls in
-    let lw : length (given (numbered 1 w)) ≡ w = length-given (numbered 1 w) ∙ length-numbered 1 w in
-    let E : ℕ → ℕ → Encoded = λ (v m : ℕ). encoded (columns v) ls (given (numbered 1 w) ∷ []) m in
-    let same : E w (w + 1) ≡ E (length (given (numbered 1 w))) (suc w) = ap₂ E (sym lw) (add-one w) in
+    let next : first + r .next - (w + 1) ≡ product-made t ls (given x) first .next =
+    omega (
+      arith,
+      k .next-is ∙ ap (λ (m : ℕ). P m .next) (add-one w) ∙ any-shift ls (given (numbered 1 w)) (suc w) 0 t .0,
+      c .next,
+      k .grows,
+    ) in
     record {
-      next = omega (arith, k .next-is ∙ ap (λ (q : Encoded). q .next) same, c .next, k .grows);
-      words = k .words-are ∙ ap (λ (q : Encoded). length (words (q .clauses))) same ∙ sym (c .words);
+      next = next;
+      words = k .words-are ∙ ap (λ (m : ℕ). length (words (P m .clauses))) (add-one w)
+          ∙ ap (λ (q : List Clause). length (words q)) (any-shift ls (given (numbered 1 w)) (suc w) 0 t .1) ∙ sym (c .words);
+      first-below = omega (arith, next, k .grows);
     }
 
--- what the pass that writes asks, where x's codes stand in the front of an array
-module _ (recipe : List ℕ) (n : ℕ) (x : List ℤ) (first t size : ℕ) (w : CanWrite recipe n x first t size) (codes : List ℕ)
-    (e : codes ≡ sets (replicate 16 0) 0 (table (given-code x) (length x))) where
-  codes-are : take (length x) codes ≡ table (given-code x) (length x)
-  codes-are =
-      ap (λ (l : List ℕ). take (length x) l) e
-      ∙ take-sets (replicate 16 0) (table (given-code x) (length x)) (length x) (length-table (given-code x) (length x)) (omega (arith, w .width, length-replicate {A = ℕ} 16 0))
-
-  pub codes-long : length (take (length x) codes) ≡ length x
-  codes-long = ap (λ (l : List ℕ). length l) codes-are ∙ length-table (given-code x) (length x)
-
-  pub codes-bits : bits-of (take (length x) codes) ≡ given x
-  codes-bits = ap (λ (l : List ℕ). bits-of l) codes-are ∙ given-bits first x (w .fit)
-
-  pub can-pass : product t (lines-from recipe 0 n) (given x) first .next ≤ most-next → CanPass recipe n (take (length x) codes) first t size
-  can-pass h = record {
-    lines = subst (λ (k : ℕ). Writable k recipe n) (sym codes-long) (w .lines);
-    width = omega (arith, w .width, codes-long);
-    next-pos = w .first-pos;
-    next-fits = subst (λ (b : List Bit). product t (lines-from recipe 0 n) b first .next ≤ most-next) (sym codes-bits) h;
-    few-bits = w .few-bits;
-    bits = w .bits ∙ ap (λ (b : List Bit). length (product t (lines-from recipe 0 n) b first .y)) (sym codes-bits);
-  }
-
--- ---- the answer and the rooms, by tests 15, 9 and 10
-
--- an answer and two rooms that are an outcome's
-abbrev pub Ends : Outcome → Written → List ℤ → List ℤ → Type 0
-Ends o answer bits clauses = (answer ≡ o .answer) × ((bits ≡ o .bits) × (clauses ≡ o .clauses))
+-- ---- the answer and the rooms, behind tests 15, 9 and 10
 
 module _ (p : Product) (size : ℕ) (bits clauses : List ℤ) where
-  pub next-large : most-next < p .next → Ends (product-written p size bits clauses) (Refused Variables) bits clauses
-  next-large h = rw (lt-ltb most-next (p .next) h) (refl, (refl, refl))
+  abbrev tests : List Verdict
+  tests = product-tests p size (length bits) (length clauses)
 
-  module _ (n : p .next ≤ most-next) where
-    pub bits-short : length bits < size → Ends (product-written p size bits clauses) (Refused BitRoom) bits clauses
-    bits-short h = rw (le-ltb most-next (p .next) n, lt-ltb (length bits) size h) (refl, (refl, refl))
+  abbrev left-by : Verdict → Writing
+  left-by v = write-by (answer-by Refused (clauses-of-product p size) v) p bits clauses
 
-    pub clauses-short : size ≤ length bits → length clauses < length (clause-words p) → Ends (product-written p size bits clauses) (Refused ClauseRoom) bits clauses
-    clauses-short h k = rw (le-ltb most-next (p .next) n, le-ltb (length bits) size h, lt-ltb (length clauses) (length (clause-words p)) k) (refl, (refl, refl))
+  -- a test refuses
+  pub need-refused : (r : Refusal) → first-broken tests ≡ Broken r → writing (Refused r) bits clauses ≡ product-written p size bits clauses
+  need-refused r e = sym (ap left-by e)
 
-    pub both-fit : (r : Place) (bits′ clauses′ : List ℤ) → size ≡ length (p .y) → size ≤ length bits → length (clause-words p) ≤ length clauses
-        → PassIs p size r bits bits′ clauses clauses′
-        → Ends (product-written p size bits clauses) (Clauses (r .words) (r .clauses) (r .next) size) bits′ clauses′
-    both-fit r bits′ clauses′ es h k d =
-        rw (le-ltb most-next (p .next) n, le-ltb (length bits) size h, le-ltb (length clauses) (length (clause-words p)) k) (
-          ap₂ (λ (a b : ℕ). Clauses a b (r .next) size) (d .words-are) (d .clauses-are) ∙ ap (λ (a : ℕ). Clauses (length (clause-words p)) (length (p .clauses)) a size) (d .next-is),
-          (
-            d .y-is h ∙ over-front bits (y-entries p) (omega (arith, length-map (p .y) stored)),
-            d .room-is (omega (arith, d .words-are)) ∙ over-front clauses (clause-words p) k,
-          ),
-        )
+  -- none does
+  pub both-fit : first-broken tests ≡ Kept → (first : ℕ) (r : Place) (bits′ clauses′ : List ℤ) → size ≡ length (p .y)
+      → PassIs p first size r bits bits′ clauses clauses′
+      → writing (Clauses (record { words = r .words; clauses = r .clauses; next = r .next; bits = size })) bits′ clauses′
+      ≡ product-written p size bits clauses
+  both-fit e first r bits′ clauses′ es d =
+      let f = kept-fits p size (length bits) (length clauses) e in
+      let k = d .counts in
+      let counts : _≡_ {A = Written} (Clauses (record { words = r .words; clauses = r .clauses; next = r .next; bits = size }))
+      (clauses-of-product p size) =
+      rw (k .words-are, k .clauses-are, k .next-is) refl in
+      let rooms =
+      ap₂ (λ (b q : List ℤ). writing (clauses-of-product p size) b q) (d .y-is es (f .bits-fit))
+      (d .room-is (omega (arith, k .words-are, f .clauses-fit))) in
+      ap (λ (a : Written). writing a bits′ clauses′) counts ∙ rooms ∙ sym (ap left-by e)

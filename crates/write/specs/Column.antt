@@ -6,7 +6,7 @@ use mathlib.Core.List.{List, [], _∷_}
 use lib.Dec.{eqb}
 use Rattle.cnf.specs.Clause.{Clause}
 use Rattle.product.specs.Bit.{Bit, flip}
-use Rattle.product.specs.Column.{first-pair, Made, plain, sum, carry, sum-of, carry-of, Column}
+use Rattle.product.specs.Column.{first-pair, Made, plain, sum-made, carry-made, sum-of, carry-of, Column}
 use Rattle.gates.specs.Code.{literal-of, bit-of}
 use Rattle.gates.specs.Gate.{gate-clauses, column-clauses}
 use Rattle.write.specs.declared.column.Inputs.{Inputs}
@@ -24,14 +24,14 @@ pair-of-codes a b rest = cond (eqb a b) (Equal a rest) (Opposite rest)
 abbrev pub inputs-sum : Inputs → ℕ → Made
 inputs-sum (Equal p rest) n = plain (bit-of rest) n
 inputs-sum (Opposite rest) n = plain (flip (bit-of rest)) n
-inputs-sum (Two f p q) n = sum f (literal-of p ∷ literal-of q ∷ []) n
-inputs-sum (Three p q r) n = sum 0 (literal-of p ∷ literal-of q ∷ literal-of r ∷ []) n
+inputs-sum (Two f p q) n = sum-made f (literal-of p ∷ literal-of q ∷ []) n
+inputs-sum (Three p q r) n = sum-made 0 (literal-of p ∷ literal-of q ∷ literal-of r ∷ []) n
 
 abbrev pub inputs-carry : Inputs → ℕ → Made
 inputs-carry (Equal p rest) n = plain (bit-of p) n
 inputs-carry (Opposite rest) n = plain (bit-of rest) n
-inputs-carry (Two f p q) n = carry f (literal-of p ∷ literal-of q ∷ []) n
-inputs-carry (Three p q r) n = carry 0 (literal-of p ∷ literal-of q ∷ literal-of r ∷ []) n
+inputs-carry (Two f p q) n = carry-made f (literal-of p ∷ literal-of q ∷ []) n
+inputs-carry (Three p q r) n = carry-made 0 (literal-of p ∷ literal-of q ∷ literal-of r ∷ []) n
 
 -- the fixed input beside two others is 0 or 1
 abbrev pub FixedFew : Inputs → Type 0

@@ -1,3 +1,4 @@
+pub mod Sizes
 pub mod Column
 pub mod Terms
 pub mod Rooms

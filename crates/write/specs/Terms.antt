@@ -5,13 +5,15 @@ use mathlib.Core.List.{List, [], _∷_, _++_}
 use lib.Dec.{eqb, ltb}
 use lib.IntN.{ℤ, pos}
 use lib.ListN.{getD, take, drop}
+use Rattle.line.specs.Line.{Kind, splus, sminus, minuss}
 use Rattle.cnf.specs.Words.{word, named, names}
 use Rattle.gates.specs.Code.{literal-of, flipped-code, code-of-word}
+use Rattle.write.specs.Sizes.{most-columns}
 
 -- f 0 to f (m - 1)
-unfoldable pub table : {A : Type 0} → (ℕ → A) → ℕ → List A
-table f zero = []
-table f (suc m) = table f m ++ (f m ∷ [])
+unfoldable pub listed : {A : Type 0} → (ℕ → A) → ℕ → List A
+listed f zero = []
+listed f (suc m) = listed f m ++ (f m ∷ [])
 
 -- entry j of codes with s zeros put below
 abbrev pub shifted-code : List ℕ → ℕ → ℕ → ℕ
@@ -21,19 +23,25 @@ shifted-code bits s j = cond (ltb j s) 0 (getD bits (j - s) 0)
 unfoldable pub term-code : List ℕ → ℕ → ℕ → ℕ → ℕ
 term-code bits s f j = flipped-code (shifted-code bits s j) f
 
--- by a kind's code: the left term's shift, the right term's, and 1 where the right term is taken off
-unfoldable pub shift-of-left : ℕ → ℕ → ℕ
-shift-of-left kind s = cond (eqb kind 3) 0 s
+-- by the kind: the left term's shift, the right term's, and 1 where the right term is taken off
+unfoldable pub shift-of-left : Kind → ℕ → ℕ
+shift-of-left splus s = s
+shift-of-left sminus s = s
+shift-of-left minuss s = 0
 
-unfoldable pub shift-of-right : ℕ → ℕ → ℕ
-shift-of-right kind s = cond (eqb kind 3) s 0
+unfoldable pub shift-of-right : Kind → ℕ → ℕ
+shift-of-right splus s = 0
+shift-of-right sminus s = 0
+shift-of-right minuss s = s
 
-unfoldable pub taken-off : ℕ → ℕ
-taken-off kind = cond (eqb kind 1) 0 1
+unfoldable pub taken-off : Kind → ℕ
+taken-off splus = 0
+taken-off sminus = 1
+taken-off minuss = 1
 
 -- operand i of a scratch room, which has 36 entries for each
 unfoldable pub operand-at : List ℕ → ℕ → List ℕ
-operand-at scratch i = take 36 (drop (36 * i) scratch)
+operand-at scratch i = take most-columns (drop (most-columns * i) scratch)
 
 -- bit j of given literals, and literal j of document 01's x
 abbrev pub given-code : List ℤ → ℕ → ℕ

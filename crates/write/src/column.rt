@@ -2,6 +2,7 @@
 
 ghost use mathlib.Core.Path.{_≡_};
 ghost use Prim.Native.Nat.{_+_, _/_, _≤_, _<_};
+ghost use Rattle.line.specs.Limits.{most-next};
 ghost use Rattle.product.specs.Column.{column};
 ghost use Rattle.gates.specs.Code.{bit-of};
 ghost use Rattle.write.specs.Column.{pair-of-codes, inputs-sum, inputs-carry, FixedFew, Sees, MatchesBit, MatchesColumn};
@@ -74,7 +75,7 @@ pub struct MadeColumn {
 
 // z is the next free variable.
 fn sum_bit(i: Inputs, z: u32) -> MadeBit
-    requires { ⌜ (0 < z) × (inputs-sum i z .next ≤ 2147483648) ⌝ }
+    requires { ⌜ (0 < z) × (inputs-sum i z .next ≤ most-next) ⌝ }
     ensures { λ r. ⌜ MatchesBit z r (inputs-sum i z) ⌝ }
 {
     match i {
@@ -103,7 +104,7 @@ fn sum_bit(i: Inputs, z: u32) -> MadeBit
 
 // t is the next free variable. One of p and q is both of their negations, negated.
 fn carry_bit(i: Inputs, t: u32) -> MadeBit
-    requires { ⌜ FixedFew i × (0 < t) × (inputs-carry i t .next ≤ 2147483648) ⌝ }
+    requires { ⌜ FixedFew i × (0 < t) × (inputs-carry i t .next ≤ most-next) ⌝ }
     ensures { λ r. ⌜ MatchesBit t r (inputs-carry i t) ⌝ }
 {
     match i {
@@ -132,7 +133,7 @@ fn carry_bit(i: Inputs, t: u32) -> MadeBit
 
 // The sum before the carry, and no carry in the last column.
 pub(crate) fn column(left: u32, right: u32, carry: u32, last: bool, next: u32) -> MadeColumn
-    requires { ⌜ (0 < next) × (column (bit-of left) (bit-of right) (bit-of carry) last next .next ≤ 2147483648) ⌝ }
+    requires { ⌜ (0 < next) × (column (bit-of left) (bit-of right) (bit-of carry) last next .next ≤ most-next) ⌝ }
     ensures { λ r. ⌜ MatchesColumn next r (column (bit-of left) (bit-of right) (bit-of carry) last next) ⌝ }
 {
     let i = inputs_of(left, right, carry);

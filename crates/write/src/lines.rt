@@ -5,12 +5,14 @@ ghost use mathlib.Core.List.{[], _∷_};
 ghost use Prim.Native.Nat.{_+_, _-_, _*_, _^_, _≤_, _<_};
 ghost use lib.ListN.{length, take};
 ghost use lib.Seq.{sets};
+ghost use Rattle.write.specs.Sizes.{most-columns};
+ghost use Rattle.line.specs.Limits.{most-width, most-coefficient};
 ghost use Rattle.line.specs.Line.{kind-of};
 ghost use Rattle.gates.specs.Code.{bit-of, bits-of};
 ghost use Rattle.product.specs.Lines.{adder, line-sum, columns, encoded};
 ghost use Rattle.product.specs.Product.{lines-from};
-ghost use Rattle.write.specs.Terms.{table, term-code, shift-of-left, shift-of-right, taken-off, operand-at};
-ghost use Rattle.write.specs.Rooms.{CanSum, SumIs, CanLine, CanLines, LinesAre};
+ghost use Rattle.write.specs.Terms.{listed, term-code, shift-of-left, shift-of-right, taken-off, operand-at};
+ghost use Rattle.write.specs.Rooms.{CanSum, SumIs, TermsAre, CanLine, CanLines, LinesAre};
 use crate::column::column;
 use gates::flipped;
 use gates::write_column;
@@ -44,7 +46,8 @@ fn write_sum(
     room: &mut [i32],
 ) -> Place
     requires { ⌜ CanSum (now left) (now right) first from m (now sums) ⌝ }
-    ensures { λ r. ⌜ SumIs (adder (bits-of (now (left .entry))) (bits-of (now (right .entry))) (bit-of first) (from .next)) from m 0 r (now (sums .entry)) (now (sums .exit)) (now (room .entry)) (now (room .exit)) ⌝ }
+    ensures { λ r. ⌜ SumIs (adder (bits-of (now (left .entry))) (bits-of (now (right .entry))) (bit-of first) (from .next)) from m 0 r
+        (now (sums .entry)) (now (sums .exit)) (now (room .entry)) (now (room .exit)) ⌝ }
 {
     let mut carry = first;
     let mut free = from.next;
@@ -89,8 +92,8 @@ fn term_bit(bits: &[u32], s: usize, f: u32, j: usize) -> u32
 
 // The first m columns of operand i of a scratch room, shifted by s, negated if f is odd.
 fn term(scratch: &[u32], i: usize, s: usize, f: u32, m: usize, out: &mut [u32])
-    requires { ⌜ (36 * i + 36 ≤ length (now scratch)) × (m ≤ 36) × (m ≤ length (now out)) ⌝ }
-    ensures { λ _. ⌜ now (out .exit) ≡ sets (now (out .entry)) 0 (table (term-code (operand-at (now (scratch .entry)) i) s f) m) ⌝ }
+    requires { ⌜ (most-columns * i + most-columns ≤ length (now scratch)) × (m ≤ most-columns) × (m ≤ length (now out)) ⌝ }
+    ensures { λ _. ⌜ now (out .exit) ≡ sets (now (out .entry)) 0 (listed (term-code (operand-at (now (scratch .entry)) i) s f) m) ⌝ }
 {
     let a = MOST_COLUMNS * i;
     let bits = &scratch[a..a + MOST_COLUMNS];
@@ -102,22 +105,47 @@ fn term(scratch: &[u32], i: usize, s: usize, f: u32, m: usize, out: &mut [u32])
 }
 
 fn shift_of_left(kind: u64, s: usize) -> usize
-    ensures { λ r. ⌜ r ≡ shift-of-left kind s ⌝ }
+    ensures { λ r. ⌜ r ≡ shift-of-left (kind-of kind) s ⌝ }
 {
-    if kind == Line::MINUSS { 0 } else { s }
+    if kind == Line::SPLUS {
+        return s;
+    }
+    if kind == Line::SMINUS { s } else { 0 }
 }
 
 fn shift_of_right(kind: u64, s: usize) -> usize
-    ensures { λ r. ⌜ r ≡ shift-of-right kind s ⌝ }
+    ensures { λ r. ⌜ r ≡ shift-of-right (kind-of kind) s ⌝ }
 {
-    if kind == Line::MINUSS { s } else { 0 }
+    if kind == Line::SPLUS {
+        return 0;
+    }
+    if kind == Line::SMINUS { 0 } else { s }
 }
 
 // 1 where the right term is taken off: its columns are negated, and the first carry is 1.
 fn taken_off(kind: u64) -> u32
-    ensures { λ r. ⌜ r ≡ taken-off kind ⌝ }
+    ensures { λ r. ⌜ r ≡ taken-off (kind-of kind) ⌝ }
 {
     if kind == Line::SPLUS { 0 } else { 1 }
+}
+
+// The first m columns of a line's two terms.
+fn terms(l: Line, m: usize, scratch: &[u32], left: &mut [u32], right: &mut [u32])
+    requires { ⌜ (most-columns * l .left + most-columns ≤ length (now scratch))
+        × (most-columns * l .right + most-columns ≤ length (now scratch)) ⌝ }
+    requires { ⌜ (m ≤ most-columns) × (m ≤ length (now left)) × (m ≤ length (now right)) ⌝ }
+    ensures { λ _. ⌜ TermsAre l m (now (scratch .entry)) (now (left .entry)) (now (left .exit)) (now (right .entry)) (now (right .exit)) ⌝ }
+{
+    let s = l.shift as usize;
+    term(scratch, l.left, shift_of_left(l.kind, s), 0, m, left);
+    term(
+        scratch,
+        l.right,
+        shift_of_right(l.kind, s),
+        taken_off(l.kind),
+        m,
+        right,
+    );
 }
 
 // A line of m columns: its operands' bits are read at their places in the scratch room, and its own are stored at its place.
@@ -130,37 +158,38 @@ fn write_line(
     room: &mut [i32],
 ) -> Place
     requires { ⌜ CanLine l m at from (now scratch) ⌝ }
-    ensures { λ r. ⌜ SumIs (line-sum (kind-of (l .kind)) m (bits-of (operand-at (now (scratch .entry)) (l .left))) (l .shift) (bits-of (operand-at (now (scratch .entry)) (l .right))) (from .next)) from m (36 * at) r (now (scratch .entry)) (now (scratch .exit)) (now (room .entry)) (now (room .exit)) ⌝ }
+    ensures { λ r. ⌜ SumIs (line-sum (kind-of (l .kind)) m (bits-of (operand-at (now (scratch .entry)) (l .left))) (l .shift)
+        (bits-of (operand-at (now (scratch .entry)) (l .right))) (from .next)) from m (most-columns * at) r
+        (now (scratch .entry)) (now (scratch .exit)) (now (room .entry)) (now (room .exit)) ⌝ }
 {
-    let s = l.shift as usize;
-    let f = taken_off(l.kind);
     let mut left = [0u32; MOST_COLUMNS];
     let mut right = [0u32; MOST_COLUMNS];
-    term(scratch, l.left, shift_of_left(l.kind, s), 0, m, &mut left);
-    term(
-        scratch,
-        l.right,
-        shift_of_right(l.kind, s),
-        f,
-        m,
-        &mut right,
-    );
+    terms(l, m, scratch, &mut left, &mut right);
     let o = MOST_COLUMNS * at;
-    write_sum(&left[..m], &right[..m], f, m, from, &mut scratch[o..], room)
+    let first = taken_off(l.kind);
+    write_sum(
+        &left[..m],
+        &right[..m],
+        first,
+        m,
+        from,
+        &mut scratch[o..],
+        room,
+    )
 }
 
 // ---- a recipe
 
 // The largest x of w bits.
 pub(crate) fn largest(w: usize) -> u64
-    requires { ⌜ w ≤ 16 ⌝ }
+    requires { ⌜ w ≤ most-width ⌝ }
     ensures { λ r. ⌜ (r ≡ 2 ^ w - 1) × (r < 65536) ⌝ }
 {
     (1u64 << w) - 1
 }
 
 fn columns_of(w: usize, k: u64) -> usize
-    requires { ⌜ (w ≤ 16) × (k < 2 ^ 20) ⌝ }
+    requires { ⌜ (w ≤ most-width) × (k ≤ most-coefficient) ⌝ }
     ensures { λ r. ⌜ (r ≡ columns w k) × (r ≤ 64) ⌝ }
 {
     line::bit_length(k * largest(w))
@@ -176,7 +205,9 @@ pub(crate) fn write_lines(
     room: &mut [i32],
 ) -> Place
     requires { ⌜ CanLines (now recipe) n w next (now scratch) ⌝ }
-    ensures { λ r. ⌜ LinesAre (encoded (columns w) (lines-from (now (recipe .entry)) 0 n) (bits-of (take w (now (scratch .entry))) ∷ []) next) next r (now (scratch .exit)) (now (room .entry)) (now (room .exit)) ⌝ }
+    ensures { λ r. ⌜ LinesAre
+        (encoded (columns w) (lines-from (now (recipe .entry)) 0 n) (bits-of (take w (now (scratch .entry))) ∷ []) next) next r
+        (now (scratch .exit)) (now (room .entry)) (now (room .exit)) ⌝ }
 {
     let mut free = next;
     let mut used = 0;

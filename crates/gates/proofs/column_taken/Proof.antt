@@ -1,4 +1,4 @@
--- `column_taken`: what both gates take.
+-- `gates::column_taken`: what both gates take.
 use mathlib.Core.Path.{sym, ap}
 use native.Mathlib.Omega.{arith}
 use Rattle.gates.specs.declared.Taken.{Taken}
@@ -11,13 +11,25 @@ add-t5 : tie.Need-add-t5
 add-t5 c =
     let g = c .before .before in
     let a = g .before .before .args in
-    omega (arith, ap (λ (t : Taken). t .words) (g .before .gate-taken .ensures), ap (λ (t : Taken). t .words) (g .gate-taken2 .ensures), gate-taken-few (a .parity), gate-taken-few (a .majority))
+    omega (
+      arith,
+      ap (λ (t : Taken). t .words) (g .before .gate-taken .ensures),
+      ap (λ (t : Taken). t .words) (g .gate-taken2 .ensures),
+      gate-taken-few (a .parity),
+      gate-taken-few (a .majority),
+    )
 
 add-t6 : tie.Need-add-t6
 add-t6 c =
     let g = c .before .before .before .before in
     let a = g .before .before .args in
-    omega (arith, ap (λ (t : Taken). t .clauses) (g .before .gate-taken .ensures), ap (λ (t : Taken). t .clauses) (g .gate-taken2 .ensures), gate-taken-few (a .parity), gate-taken-few (a .majority))
+    omega (
+      arith,
+      ap (λ (t : Taken). t .clauses) (g .before .gate-taken .ensures),
+      ap (λ (t : Taken). t .clauses) (g .gate-taken2 .ensures),
+      gate-taken-few (a .parity),
+      gate-taken-few (a .majority),
+    )
 
 returns : tie.Need-returns
 returns c =

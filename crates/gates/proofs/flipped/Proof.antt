@@ -1,4 +1,4 @@
--- `flipped`: the code, negated if f is odd.
+-- `gates::flipped`: the code, negated if f is odd.
 use mathlib.Core.Path.{sym, _∙_}
 use native.Mathlib.Omega.{arith}
 use Rattle.gates.proofs.Codes.{flipped-odd, flipped-even}

@@ -1,4 +1,4 @@
--- `gate_taken`: the words and clauses of each gate, counted off its clauses.
+-- `gates::gate_taken`: the words and clauses of each gate, counted off its clauses.
 use mathlib.Core.Path.{refl}
 use Rattle.product.specs.Column.{parity, both, most}
 use Rattle.gates.specs.Gate.{taken}
@@ -29,5 +29,5 @@ returns-5 c = rw (c .enum-told5 .given .1) refl
 pub gate-taken-spec : {M : Type 1} → statement M
 gate-taken-spec =
     tie.close
-    (tie.spec (λ c. search needs) (λ c. search needs) (λ c. search needs) (λ c. search needs) (λ c. search needs)
-    returns returns-2 returns-3 returns-4 returns-5)
+    (tie.spec (λ c. search needs) (λ c. search needs) (λ c. search needs) (λ c. search needs) (λ c. search needs) returns returns-2
+    returns-3 returns-4 returns-5)

@@ -1,4 +1,4 @@
--- `negated`: the code of the negation.
+-- `gates::negated`: the code of the negation.
 use mathlib.Core.Path.{sym}
 use native.Mathlib.Omega.{arith}
 use Rattle.gates.proofs.Codes.{negated-even, negated-odd}

@@ -1,4 +1,4 @@
--- `store`: the words one by one.
+-- `gates::store`: the words one by one.
 use Prim.Native.Nat.{_+_, _-_, _≤_}
 use mathlib.Core.Path.{_≡_, refl, ap, _∙_}
 use mathlib.Core.List.{List}
@@ -31,7 +31,8 @@ loop-again c =
     let v = toZ w32 (ofZ w32 (z .result)) in (
       omega arith,
       length-set (l .room) (a .at + l .j) v ∙ l .inv .1,
-      ap (λ (x : List ℤ). set x (a .at + l .j) v) (l .inv .2) ∙ words-more (a .room .now) (a .codes .now) (a .at) (l .j) (z .result) (omega arith) (z .ok) (z .ensures),
+      ap (λ (x : List ℤ). set x (a .at + l .j) v) (l .inv .2)
+          ∙ words-more (a .room .now) (a .codes .now) (a .at) (l .j) (z .result) (omega arith) (z .ok) (z .ensures),
     )
 
 same-length : tie.Need-same-length Inv-loop μ-loop
@@ -46,6 +47,5 @@ returns c =
 pub store-spec : {M : Type 1} → statement M
 store-spec =
     tie.close
-    (tie.spec Inv-loop μ-loop loop-holds (λ c. search needs) (λ c. search needs) (λ c κs. search needs)
-    (λ c. search needs) (λ c. search needs) (λ c. search needs) (λ c. search needs) (λ c. search needs) loop-again
-    same-length returns)
+    (tie.spec Inv-loop μ-loop loop-holds (λ c. search needs) (λ c. search needs) (λ c κs. search needs) (λ c. search needs)
+    (λ c. search needs) (λ c. search needs) (λ c. search needs) (λ c. search needs) loop-again same-length returns)

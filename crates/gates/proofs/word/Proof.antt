@@ -1,4 +1,4 @@
--- `word`: the word of the literal; it fits, since half of a code is below 2^31.
+-- `gates::word`: the word of the literal; it fits, since half of a code is below 2^31.
 use Prim.Native.Nat.{_/_, _<_, _^_}
 use mathlib.Core.Path.{sym, _∙_}
 use native.Mathlib.Omega.{arith}

@@ -1,4 +1,4 @@
--- `write_both`: the three clauses.
+-- `gates::write_both`: the three clauses.
 use mathlib.Core.Path.{refl}
 use Rattle.product.specs.Column.{both}
 use Rattle.gates.proofs.Codes.{literal-negated}
@@ -23,4 +23,5 @@ returns c =
 pub write-both-spec : {M : Type 1} → statement M
 write-both-spec =
     tie.close
-    (tie.spec (λ c κs. search needs) (λ c κs. search needs) (λ c κs. search needs) (λ c. search needs) (λ c κs. search needs) (λ c. search needs) returns)
+    (tie.spec (λ c κs. search needs) (λ c κs. search needs) (λ c κs. search needs) (λ c. search needs) (λ c κs. search needs)
+    (λ c. search needs) returns)

@@ -1,4 +1,4 @@
--- `write_column`: the column's words, if they fit.
+-- `gates::write_column`: the column's words, if they fit.
 use mathlib.Core.Path.{_≡_, ap, _∙_}
 use native.Mathlib.Omega.{arith}
 use lib.Seq.{sets}
@@ -21,8 +21,11 @@ unfolding taken
 returns c =
     let a = c .before .before .before .before .before .before .args in
     let k = c .before .before .before .before .before .column-taken in
-    let rest : c .before .write-gates .last .1 .1 .0 ≡ sets (a .rest .now) 0 (words (column-clauses (a .parity) (a .majority))) = c .before .write-gates .ensures in
-    (k .ensures, rest ∙ fits (column-clauses (a .parity) (a .majority)) (a .rest .now) (omega (arith, ap (λ (t : Taken). t .words) (k .ensures))))
+    let rest : c .before .write-gates .last .1 .1 .0 ≡ sets (a .rest .now) 0 (words (column-clauses (a .parity) (a .majority))) =
+    c .before .write-gates .ensures in (
+      k .ensures,
+      rest ∙ fits (column-clauses (a .parity) (a .majority)) (a .rest .now) (omega (arith, ap (λ (t : Taken). t .words) (k .ensures))),
+    )
 
 returns-2 : tie.Need-returns-2
 unfolding taken

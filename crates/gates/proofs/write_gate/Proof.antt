@@ -1,4 +1,4 @@
--- `write_gate`: each gate by its own function.
+-- `gates::write_gate`: each gate by its own function.
 use Rattle.product.specs.Column.{parity, both, most}
 use borrow.Author.Needs.{needs}
 use Rattle.gates.proofs.write_gate.Statement.{statement}
@@ -35,7 +35,6 @@ returns-5 c = rw (c .before .before .before .before .g4 .given .1) (c .before .w
 pub write-gate-spec : {M : Type 1} → statement M
 write-gate-spec =
     tie.close
-    (tie.spec (λ c. search needs) (λ c. search needs) write-parity-of-two-requires (λ c. search needs)
-    write-parity-of-three-requires (λ c. search needs) write-both-requires (λ c. search needs) write-most-requires
-    (λ c. search needs) (λ c. search needs) returns-2 (λ c. search needs) returns-3 (λ c. search needs) returns-4
-    (λ c. search needs) returns-5)
+    (tie.spec (λ c. search needs) (λ c. search needs) write-parity-of-two-requires (λ c. search needs) write-parity-of-three-requires
+    (λ c. search needs) write-both-requires (λ c. search needs) write-most-requires (λ c. search needs) (λ c. search needs) returns-2
+    (λ c. search needs) returns-3 (λ c. search needs) returns-4 (λ c. search needs) returns-5)

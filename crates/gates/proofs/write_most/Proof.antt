@@ -1,4 +1,4 @@
--- `write_most`: the six clauses, one half behind the other.
+-- `gates::write_most`: the six clauses, one half behind the other.
 use mathlib.Core.Path.{refl}
 use Rattle.product.specs.Column.{most}
 use Rattle.gates.proofs.Codes.{literal-negated}
@@ -10,13 +10,19 @@ use Rattle.gates.proofs.write_most.Tie as tie
 returns : tie.Need-returns
 unfolding most
 returns c =
+    let second = c .before in
+    let first = second .before .before .before .before in
+    let nt = first .before .before .before in
+    let nr = nt .before in
+    let nq = nr .before in
+    let np = nq .before in
     simp (
-      c .before .store2 .ensures,
-      c .before .before .before .before .before .store .ensures,
-      c .before .before .before .before .before .before .before .before .negated4 .ensures,
-      c .before .before .before .before .before .before .before .before .before .negated3 .ensures,
-      c .before .before .before .before .before .before .before .before .before .before .negated2 .ensures,
-      c .before .before .before .before .before .before .before .before .before .before .before .negated .ensures,
+      second .store2 .ensures,
+      first .store .ensures,
+      nt .negated4 .ensures,
+      nr .negated3 .ensures,
+      nq .negated2 .ensures,
+      np .negated .ensures,
       literal-negated,
       zero-word,
     )
@@ -25,4 +31,5 @@ returns c =
 pub write-most-spec : {M : Type 1} → statement M
 write-most-spec =
     tie.close
-    (tie.spec (λ c κs. search needs) (λ c κs. search needs) (λ c κs. search needs) (λ c κs. search needs) (λ c. search needs) (λ c κs. search needs) (λ c. search needs) (λ c κs. search needs) (λ c. search needs) returns)
+    (tie.spec (λ c κs. search needs) (λ c κs. search needs) (λ c κs. search needs) (λ c κs. search needs) (λ c. search needs)
+    (λ c κs. search needs) (λ c. search needs) (λ c κs. search needs) (λ c. search needs) returns)

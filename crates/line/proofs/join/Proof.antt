@@ -10,21 +10,16 @@ use Rattle.line.proofs.join.Tie as tie
 one-shifted : (k : ℕ) → k ≤ 20 → (1 * 2 ^ k) % 2 ^ 64 ≡ 2 ^ k
 one-shifted k h = shl-exact {a = 1} 1 k 64 (omega arith) (omega arith) ∙ omega arith
 
-shl-result : tie.Need-shl-result
-shl-result c = omega arith
-
-shl-result-2 : tie.Need-shl-result-2
-shl-result-2 c = omega arith
-
 sub-result : tie.Need-sub-result
 sub-result c = omega (arith, one-shifted (c .args .k) (c .pre .1), pow-pos (c .args .k))
 
 returns : tie.Need-returns
 returns c =
     let a = c .args in
-    ap₂ (λ (x y : ℕ). bitOr x (bitAnd (a .f) (y - 1))) (shl-exact {a = a .v} 40 (a .k) 64 (c .pre .0) (omega arith)) (one-shifted (a .k) (c .pre .1))
+    ap₂ (λ (x y : ℕ). bitOr x (bitAnd (a .f) (y - 1))) (shl-exact {a = a .v} 40 (a .k) 64 (c .pre .0) (omega arith))
+    (one-shifted (a .k) (c .pre .1))
     ∙ or-shifted (a .v) (a .k) (bitAnd (a .f) (2 ^ a .k - 1)) (mask-lt (a .f) (a .k))
     ∙ omega (arith, and-mask (a .f) (a .k))
 
 pub join-spec : {M : Type 1} → statement M
-join-spec = tie.close (tie.spec shl-result shl-result-2 sub-result returns)
+join-spec = tie.close (tie.spec (λ c. omega arith) (λ c. omega arith) sub-result returns)

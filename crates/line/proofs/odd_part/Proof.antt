@@ -7,12 +7,6 @@ use Rattle.line.specs.Number.{odd-part}
 use Rattle.line.proofs.odd_part.Statement.{statement}
 use Rattle.line.proofs.odd_part.Tie as tie
 
-twos-requires : tie.Need-twos-requires
-twos-requires c κs = search needs
-
-shr-result : tie.Need-shr-result
-shr-result c = search needs
-
 returns : tie.Need-returns
 unfolding odd-part
 returns c =
@@ -20,4 +14,4 @@ returns c =
     (ap (λ (t : ℕ). v / 2 ^ t) (c .twos .ensures .0), shr-le v (c .twos .result))
 
 pub odd-part-spec : {M : Type 1} → statement M
-odd-part-spec = tie.close (tie.spec twos-requires shr-result returns)
+odd-part-spec = tie.close (tie.spec (λ c κs. search needs) (λ c. search needs) returns)

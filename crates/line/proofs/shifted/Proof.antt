@@ -7,9 +7,6 @@ use lib.Pow.{shl-exact, shl-lt, pow-mono}
 use Rattle.line.proofs.shifted.Statement.{statement}
 use Rattle.line.proofs.shifted.Tie as tie
 
-shl-result : tie.Need-shl-result
-shl-result c = search needs
-
 returns : tie.Need-returns
 returns c =
     let a = c .args .a in
@@ -19,4 +16,4 @@ returns c =
     (exact, omega (arith, exact, small))
 
 pub shifted-spec : {M : Type 1} → statement M
-shifted-spec = tie.close (tie.spec shl-result returns)
+shifted-spec = tie.close (tie.spec (λ c. search needs) returns)

@@ -30,7 +30,9 @@ returns c =
     let a = av .before .before .before .before .before .args in
     let z = getD (a .given .now) (l .i) (pos 0) in
     let f = toZ-ofZ w32 z (record { sfits = av .before .w .given }) in
-    let e = giving-zero (a .given .now) (a .values .now) (l .values) (l .i) (l .inv) z (omega arith) refl (av .named .result) (av .named .ensures .0 ∙ ap named f) (c .if1 .taken) in
+    let e =
+    giving-zero (a .given .now) (a .values .now) (l .values) (l .i) (l .inv) z (omega arith) refl (av .named .result)
+    (av .named .ensures .0 ∙ ap named f) (c .if1 .taken) in
     (sym (ap (λ (o : Held). o .held) e), sym (ap (λ (o : Held). o .room) e))
 
 returns-2 : tie.Need-returns-2 Inv-loop μ-loop
@@ -40,7 +42,9 @@ returns-2 c =
     let a = av .before .before .before .before .before .args in
     let z = getD (a .given .now) (l .i) (pos 0) in
     let f = toZ-ofZ w32 z (record { sfits = av .before .w .given }) in
-    let e = giving-above (a .given .now) (a .values .now) (l .values) (l .i) (l .inv) z (omega arith) refl (av .named .result) (av .named .ensures .0 ∙ ap named f) (c .before .if1 .left) (c .if2 .taken) in
+    let e =
+    giving-above (a .given .now) (a .values .now) (l .values) (l .i) (l .inv) z (omega arith) refl (av .named .result)
+    (av .named .ensures .0 ∙ ap named f) (c .before .if1 .left) (c .if2 .taken) in
     (sym (ap (λ (o : Held). o .held) e), sym (ap (λ (o : Held). o .room) e))
 
 returns-3 : tie.Need-returns-3 Inv-loop μ-loop
@@ -51,7 +55,9 @@ returns-3 c =
     let a = av .before .before .before .before .before .args in
     let z = getD (a .given .now) (l .i) (pos 0) in
     let f = toZ-ofZ w32 z (record { sfits = av .before .w .given }) in
-    let e = giving-before (a .given .now) (a .values .now) (l .values) (l .i) (l .inv) z (omega arith) refl (av .named .result) (av .named .ensures .0 ∙ ap named f) (e2 .before .if1 .left) (e2 .if2 .left) (c .if3 .taken) in
+    let e =
+    giving-before (a .given .now) (a .values .now) (l .values) (l .i) (l .inv) z (omega arith) refl (av .named .result)
+    (av .named .ensures .0 ∙ ap named f) (e2 .before .if1 .left) (e2 .if2 .left) (c .if3 .taken) in
     (sym (ap (λ (o : Held). o .held) e), sym (ap (λ (o : Held). o .room) e))
 
 loop-again : tie.Need-loop-again Inv-loop μ-loop
@@ -63,7 +69,8 @@ loop-again c =
     let a = av .before .before .before .before .before .args in
     let z = getD (a .given .now) (l .i) (pos 0) in
     let f = toZ-ofZ w32 z (record { sfits = av .before .w .given }) in
-    giving-on (a .given .now) (a .values .now) (l .values) (l .i) (l .inv) z (omega arith) refl (av .named .result) (av .named .ensures .0 ∙ ap named f) (e2 .before .if1 .left) (e2 .if2 .left) (e3 .if3 .left)
+    giving-on (a .given .now) (a .values .now) (l .values) (l .i) (l .inv) z (omega arith) refl (av .named .result)
+    (av .named .ensures .0 ∙ ap named f) (e2 .before .if1 .left) (e2 .if2 .left) (e3 .if3 .left)
     (c .wanted .result) (c .wanted .ensures .0 ∙ ap wanted f)
 
 returns-4 : tie.Need-returns-4 Inv-loop μ-loop
@@ -76,26 +83,8 @@ returns-4 c =
 pub give-spec : {M : Type 1} → statement M
 give-spec =
     tie.close
-    (tie.spec
-    Inv-loop
-    μ-loop
-    loop-holds
-    (λ c. omega arith)
-    (λ c. omega arith)
-    (λ c κs. search needs)
-    (λ c. c .before .before .before .before .loop .inv .long)
-    returns
-    (λ c. c .before .before .before .before .before .loop .inv .long)
-    returns-2
-    (λ c. omega arith)
-    (λ c. omega arith)
-    (λ c. c .before .before .before .before .before .before .before .loop .inv .long)
-    returns-3
-    (λ c κs. search needs)
-    (λ c. omega arith)
-    (λ c. omega arith)
-    (λ c. omega arith)
-    (λ c. omega arith)
-    loop-again
-    (λ c. c .before .loop .inv .long)
-    returns-4)
+    (tie.spec Inv-loop μ-loop loop-holds (λ c. omega arith) (λ c. omega arith) (λ c κs. search needs)
+    (λ c. c .before .before .before .before .loop .inv .long) returns (λ c. c .before .before .before .before .before .loop .inv .long)
+    returns-2 (λ c. omega arith) (λ c. omega arith) (λ c. c .before .before .before .before .before .before .before .loop .inv .long)
+    returns-3 (λ c κs. search needs) (λ c. omega arith) (λ c. omega arith) (λ c. omega arith) (λ c. omega arith) loop-again
+    (λ c. c .before .loop .inv .long) returns-4)

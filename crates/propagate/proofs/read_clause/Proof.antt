@@ -1,4 +1,5 @@
--- `propagate::read_clause`: what is left of the reading is the whole (proofs/Scan.antt); the measure is the number of words left. Assumes nothing.
+-- `propagate::read_clause`: what is left of the reading is the whole (proofs/Scan.antt); the measure is the number of words left. Assumes
+-- nothing.
 use Prim.Native.Nat.{_-_}
 use mathlib.Core.Path.{refl, sym, ap, _∙_}
 use native.Mathlib.Omega.{arith}
@@ -22,9 +23,6 @@ abbrev μ-loop : tie.MeasureT-loop
 loop-holds : tie.Need-loop-holds Inv-loop μ-loop
 loop-holds c = scanning-begins _ _
 
-named-requires : tie.Need-named-requires Inv-loop μ-loop
-named-requires c κs = search needs
-
 loop-again : tie.Need-loop-again Inv-loop μ-loop
 loop-again c =
     let e3 = c .before .before .before in
@@ -33,7 +31,8 @@ loop-again c =
     let a = av .before .before .before .before .before .args in
     let z = getD (a .words .now) (l .i) (pos 0) in
     let f = toZ-ofZ w32 z (record { sfits = av .before .w .given }) in
-    scanning-on _ _ _ (l .i) (l .inv) z (omega arith) refl (av .named .result) (av .named .ensures .0 ∙ ap named f) (c .before .before .wanted .result) (c .before .before .wanted .ensures .0 ∙ ap wanted f)
+    scanning-on _ _ _ (l .i) (l .inv) z (omega arith) refl (av .named .result) (av .named .ensures .0 ∙ ap named f)
+    (c .before .before .wanted .result) (c .before .before .wanted .ensures .0 ∙ ap wanted f)
     (e3 .before .if2 .left) (e3 .if3 .left) (c .with-literal .result) (c .with-literal .ensures)
 
 returns : tie.Need-returns Inv-loop μ-loop
@@ -46,7 +45,8 @@ returns-2 c =
     let a = av .before .before .before .before .before .args in
     let z = getD (a .words .now) (l .i) (pos 0) in
     let f = toZ-ofZ w32 z (record { sfits = av .before .w .given }) in
-    sym (scanning-closes _ _ _ (l .i) (l .inv) z (omega arith) refl (av .named .result) (av .named .ensures .0 ∙ ap named f) (c .if2 .taken))
+    sym (scanning-closes _ _ _ (l .i) (l .inv) z (omega arith) refl (av .named .result) (av .named .ensures .0 ∙ ap named f)
+    (c .if2 .taken))
 
 returns-3 : tie.Need-returns-3 Inv-loop μ-loop
 returns-3 c =
@@ -55,25 +55,12 @@ returns-3 c =
     let a = av .before .before .before .before .before .args in
     let z = getD (a .words .now) (l .i) (pos 0) in
     let f = toZ-ofZ w32 z (record { sfits = av .before .w .given }) in
-    sym (scanning-breaks _ _ _ (l .i) (l .inv) z (omega arith) refl (av .named .result) (av .named .ensures .0 ∙ ap named f) (c .if3 .taken))
+    sym (scanning-breaks _ _ _ (l .i) (l .inv) z (omega arith) refl (av .named .result) (av .named .ensures .0 ∙ ap named f)
+    (c .if3 .taken))
 
 pub read-clause-spec : {M : Type 1} → statement M
 read-clause-spec =
     tie.close
-    (tie.spec
-    Inv-loop
-    μ-loop
-    loop-holds
-    (λ c. omega arith)
-    (λ c. omega arith)
-    named-requires
-    (λ c. omega arith)
-    (λ c κs. search needs)
-    (λ c. omega arith)
-    (λ c. omega arith)
-    (λ c κs. search needs)
-    (λ c. omega arith)
-    loop-again
-    returns
-    returns-2
+    (tie.spec Inv-loop μ-loop loop-holds (λ c. omega arith) (λ c. omega arith) (λ c κs. search needs) (λ c. omega arith)
+    (λ c κs. search needs) (λ c. omega arith) (λ c. omega arith) (λ c κs. search needs) (λ c. omega arith) loop-again returns returns-2
     returns-3)

@@ -20,7 +20,8 @@ returns-3 c =
     let a = e .before .before .args in
     let u = k .sofar .given .0 .0 in
     let b = k .sofar .given .0 .1 .0 in
-    other-variable u b (a .variable) (a .wanted) (c .if3 .taken) ∙ with-unknown-is (a .sofar) (a .variable) (a .wanted) (a .value) (e .before .if1 .left) (e .if2 .left) (Sets u b) (k .sofar .given .1)
+    other-variable u b (a .variable) (a .wanted) (c .if3 .taken)
+    ∙ with-unknown-is (a .sofar) (a .variable) (a .wanted) (a .value) (e .before .if1 .left) (e .if2 .left) (Sets u b) (k .sofar .given .1)
 
 returns-4 : tie.Need-returns-4
 returns-4 c =
@@ -29,7 +30,8 @@ returns-4 c =
     let a = e .before .before .args in
     let u = k .sofar .given .0 .0 in
     let b = k .sofar .given .0 .1 .0 in
-    other-value u b (a .variable) (a .wanted) (c .before .if3 .left) (c .if4 .taken) ∙ with-unknown-is (a .sofar) (a .variable) (a .wanted) (a .value) (e .before .if1 .left) (e .if2 .left) (Sets u b) (k .sofar .given .1)
+    other-value u b (a .variable) (a .wanted) (c .before .if3 .left) (c .if4 .taken)
+    ∙ with-unknown-is (a .sofar) (a .variable) (a .wanted) (a .value) (e .before .if1 .left) (e .if2 .left) (Sets u b) (k .sofar .given .1)
 
 returns-5 : tie.Need-returns-5
 returns-5 c =
@@ -44,7 +46,8 @@ returns-6 c =
     let a = e .before .before .args in
     let u = k .sofar .given .0 .0 in
     let b = k .sofar .given .0 .1 .0 in
-    repeated u b (a .variable) (a .wanted) (c .before .if3 .left) (c .if4 .left) ∙ with-unknown-is (a .sofar) (a .variable) (a .wanted) (a .value) (e .before .if1 .left) (e .if2 .left) (Sets u b) (k .sofar .given .1)
+    repeated u b (a .variable) (a .wanted) (c .before .if3 .left) (c .if4 .left)
+    ∙ with-unknown-is (a .sofar) (a .variable) (a .wanted) (a .value) (e .before .if1 .left) (e .if2 .left) (Sets u b) (k .sofar .given .1)
 
 returns-7 : tie.Need-returns-7
 returns-7 c =
@@ -55,4 +58,5 @@ returns-7 c =
 pub with-literal-spec : {M : Type 1} → statement M
 with-literal-spec =
     tie.close
-    (tie.spec returns returns-2 (λ c. search needs) (λ c. search needs) returns-3 returns-4 (λ c. search needs) returns-5 returns-6 returns-7)
+    (tie.spec returns returns-2 (λ c. search needs) (λ c. search needs) returns-3 returns-4 (λ c. search needs) returns-5 returns-6
+    returns-7)

@@ -1,6 +1,6 @@
 -- `recipe::judge` meets its contract: the tests that led to each answer are those of the definition, in its order. Assumes nothing.
 use mathlib.Core.Path.{_≡_, ap, _∙_, sym}
-use mathlib.Core.Bool.{Bool, false, cond}
+use mathlib.Core.Bool.{Bool, false, not}
 use Prim.Native.Nat.{ℕ, _+_}
 use lib.Dec.{eqb}
 use lib.IntN.{ℤ}
@@ -9,11 +9,11 @@ use borrow.Author.Needs.{needs}
 use borrow.Author.Tests.{eq-eqb, ne-eqb, lt-ltb, le-ltb}
 use mir.Syntax.{w64}
 use mir.Val.{ofZ}
+use Rattle.line.specs.Order.{refuses}
 use Rattle.line.specs.declared.Refusal.the-variants.{Value}
 use Rattle.line.proofs.Signed.{held}
 use Rattle.line.proofs.Value.{gives-whole}
-use Rattle.recipe.specs.declared.Verdict.{Verdict}
-use Rattle.recipe.specs.declared.Verdict.the-variants.{Kept, Broken}
+use Rattle.line.specs.declared.Verdict.{Verdict}
 use Rattle.recipe.specs.Check.{claims, value-judged, judged}
 use Rattle.recipe.proofs.Claims.{claims-bits}
 use Rattle.recipe.proofs.Walk.{judged-value}
@@ -43,10 +43,21 @@ unfolding judged
 returns-5 c =
     let e4 = c .before in
     let e2 = e4 .before .before in
-    simp (le-ltb _ _ (e2 .before .if1 .left), ne-eqb _ _ (e2 .if2 .left), le-ltb _ _ (e4 .before .if3 .left), le-ltb _ _ (e4 .if4 .left), eq-eqb _ _ (c .if5 .taken))
+    simp (
+      le-ltb _ _ (e2 .before .if1 .left),
+      ne-eqb _ _ (e2 .if2 .left),
+      le-ltb _ _ (e4 .before .if3 .left),
+      le-ltb _ _ (e4 .if4 .left),
+      eq-eqb _ _ (c .if5 .taken),
+    )
+
+abbrev at-start : tie.After-gives → tie.Start
+at-start c =
+    let e4 = c .before .before .before .before in
+    e4 .before .before .before .before
 
 -- rules 4 to 6 are kept, and the value is what the line gives
-rest : (c : tie.After-gives) → let a = c .before .before .before .before .before .before .before .before .args in
+rest : (c : tie.After-gives) → let a = at-start c .args in
     judged (a .line) (a .i) (getD (a .seen .now) (a .line .left) 0) (getD (a .seen .now) (a .line .right) 0)
     ≡ value-judged (a .line .coefficient) (a .i + 1) (c .gives .result)
 rest c =
@@ -61,25 +72,25 @@ rest c =
     ∙ ap (value-judged (line .coefficient) (a .i + 1)) (sym (c .gives .ensures ∙ given))
 
 -- the test compares the bits of the two numbers
-tested : (c : tie.After-gives) → let k = c .before .before .before .before .before .before .before .before .args .line .coefficient in
+tested : (c : tie.After-gives) → let k = at-start c .args .line .coefficient in
     eqb k (ofZ w64 (c .gives .result)) ≡ claims k (c .gives .result)
 tested c =
-    let s = c .before .before .before .before .before .before .before .before in
+    let s = at-start c in
     claims-bits (s .args .line .coefficient) (c .gives .result) (s .pre .1 .0 .2) (c .gives .ok)
 
 abbrev answer : ℕ → ℤ → Bool → Verdict
-answer number z b = cond b Kept (Broken (Value number z))
+answer number z b = refuses (not b) (Value number z)
 
 returns-6 : tie.Need-returns-6
 returns-6 c =
     let g = c .before in
-    let i = g .before .before .before .before .before .before .before .before .args .i in
+    let i = at-start g .args .i in
     sym (rest g ∙ ap (answer (i + 1) (g .gives .result)) (sym (tested g) ∙ eq-eqb _ _ (c .if6 .taken)))
 
 returns-7 : tie.Need-returns-7
 returns-7 c =
     let g = c .before in
-    let i = g .before .before .before .before .before .before .before .before .args .i in
+    let i = at-start g .args .i in
     let z = g .gives .result in
     ap (λ (y : ℤ). answer (i + 1) y false) (held z (g .gives .ok))
     ∙ sym (rest g ∙ ap (answer (i + 1) z) (sym (tested g) ∙ ne-eqb _ _ (c .if6 .left)))
@@ -87,18 +98,5 @@ returns-7 c =
 pub judge-spec : {M : Type 1} → statement M
 judge-spec =
     tie.close
-    (tie.spec
-    (λ c. search needs)
-    returns
-    returns-2
-    returns-3
-    returns-4
-    returns-5
-    (λ c. search needs)
-    (λ c. search needs)
-    (λ c. search needs)
-    (λ c. search needs)
-    (λ c. search needs)
-    (λ c κs. search needs)
-    returns-6
-    returns-7)
+    (tie.spec (λ c. search needs) returns returns-2 returns-3 returns-4 returns-5 (λ c. search needs) (λ c. search needs)
+    (λ c. search needs) (λ c. search needs) (λ c. search needs) (λ c κs. search needs) returns-6 returns-7)

@@ -13,13 +13,18 @@ use Rattle.write.proofs.code.Statement.{statement}
 use Rattle.write.proofs.code.Tie as tie
 
 cast-v : tie.Need-cast-v
-cast-v c = let s = c .before in record { fits = omega (arith, s .pre, c .named .ensures .0 ∙ ap natAbs (toZ-ofZ w32 (s .args .l) (s .fits .l))) }
+cast-v c =
+    let s = c .before in record { fits = omega (arith, s .pre, c .named .ensures .0 ∙ ap natAbs (toZ-ofZ w32 (s .args .l) (s .fits .l))) }
 
 mul-result : tie.Need-mul-result
-mul-result c = let s = c .before .before in record { fits = omega (arith, s .pre, c .before .named .ensures .0 ∙ ap natAbs (toZ-ofZ w32 (s .args .l) (s .fits .l))) }
+mul-result c =
+    let s = c .before .before in
+    record { fits = omega (arith, s .pre, c .before .named .ensures .0 ∙ ap natAbs (toZ-ofZ w32 (s .args .l) (s .fits .l))) }
 
 add-result : tie.Need-add-result
-add-result c = let s = c .before .before in record { fits = omega (arith, s .pre, c .before .named .ensures .0 ∙ ap natAbs (toZ-ofZ w32 (s .args .l) (s .fits .l))) }
+add-result c =
+    let s = c .before .before in
+    record { fits = omega (arith, s .pre, c .before .named .ensures .0 ∙ ap natAbs (toZ-ofZ w32 (s .args .l) (s .fits .l))) }
 
 returns : tie.Need-returns
 returns c =
@@ -28,7 +33,9 @@ returns c =
     ∙ code-minus (s .args .l) (sign (s .args .l) true (s .fits .l) (c .if1 .taken))
 
 mul-result-2 : tie.Need-mul-result-2
-mul-result-2 c = let s = c .before .before in record { fits = omega (arith, s .pre, c .before .named .ensures .0 ∙ ap natAbs (toZ-ofZ w32 (s .args .l) (s .fits .l))) }
+mul-result-2 c =
+    let s = c .before .before in
+    record { fits = omega (arith, s .pre, c .before .named .ensures .0 ∙ ap natAbs (toZ-ofZ w32 (s .args .l) (s .fits .l))) }
 
 returns-2 : tie.Need-returns-2
 returns-2 c =

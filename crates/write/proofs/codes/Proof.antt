@@ -10,20 +10,20 @@ use mir.Syntax.{w32}
 use mir.ValLaws.{toZ-ofZ}
 use Rattle.gates.specs.Code.{code-of-word}
 use Rattle.product.proofs.Given.{fit-at, fit-of}
-use Rattle.write.specs.Terms.{table, given-code}
-use Rattle.write.proofs.Tables.{table-more}
+use Rattle.write.specs.Terms.{listed, given-code}
+use Rattle.write.proofs.Tables.{listed-more}
 use borrow.Author.Needs.{needs}
 use Rattle.write.proofs.codes.Statement.{statement}
 use Rattle.write.proofs.codes.Tie as tie
 
 abbrev Inv-loop : tie.InvT-loop
-Inv-loop first x out₀ j₀ out j = (j ≤ length x) × (length out ≡ length out₀) × (out ≡ sets out₀ 0 (table (given-code x) j))
+Inv-loop first x out₀ j₀ out j = (j ≤ length x) × (length out ≡ length out₀) × (out ≡ sets out₀ 0 (listed (given-code x) j))
 
 abbrev μ-loop : tie.MeasureT-loop
 μ-loop first x out₀ j₀ out j = length x - j
 
 loop-holds : tie.Need-loop-holds Inv-loop μ-loop
-unfolding table
+unfolding listed
 loop-holds c = (omega arith, refl, refl)
 
 code-requires : tie.Need-code-requires Inv-loop μ-loop
@@ -44,10 +44,12 @@ loop-again c =
     let a = c .before .before .before .before .before .args in
     let l = c .before .before .before .loop in
     let z = getD (a .x .now) (l .j) (pos 0) in
-    let e : c .code .result ≡ given-code (a .x .now) (l .j) = c .code .ensures ∙ ap code-of-word (toZ-ofZ w32 z (record { sfits = c .before .code-arg .given })) in (
+    let e : c .code .result ≡ given-code (a .x .now) (l .j) =
+    c .code .ensures ∙ ap code-of-word (toZ-ofZ w32 z (record { sfits = c .before .code-arg .given })) in (
       omega (arith, c .before .before .loop-test .taken),
       length-set (l .out) (l .j) (c .code .result) ∙ l .inv .1,
-      ap (λ (o : List ℕ). set o (l .j) (c .code .result)) (l .inv .2) ∙ table-more (a .out .now) (given-code (a .x .now)) (l .j) (c .code .result) e,
+      ap (λ (o : List ℕ). set o (l .j) (c .code .result)) (l .inv .2)
+          ∙ listed-more (a .out .now) (given-code (a .x .now)) (l .j) (c .code .result) e,
     )
 
 same-length : tie.Need-same-length Inv-loop μ-loop
@@ -62,5 +64,5 @@ returns c =
 pub codes-spec : {M : Type 1} → statement M
 codes-spec =
     tie.close
-    (tie.spec Inv-loop μ-loop loop-holds (λ c. search needs) (λ c. search needs) code-requires
-    (λ c. search needs) (λ c. search needs) (λ c. search needs) (λ c. search needs) loop-again same-length returns)
+    (tie.spec Inv-loop μ-loop loop-holds (λ c. search needs) (λ c. search needs) code-requires (λ c. search needs) (λ c. search needs)
+    (λ c. search needs) (λ c. search needs) loop-again same-length returns)

@@ -1,67 +1,65 @@
--- `write::counted`: the lines over the variables 1 to w, in no room. Assumes nothing.
-use Prim.Native.Nat.{_+_}
-use mathlib.Core.Path.{sym, subst}
-use mathlib.Core.List.{List, [], _∷_}
+-- `write::counted`: the pass over the variables 1 to w, in no room. Assumes nothing.
+use Prim.Native.Nat.{ℕ, _+_}
+use mathlib.Core.Path.{_≡_, sym, ap, ap₂, subst, _∙_}
+use mathlib.Core.List.{List}
 use native.Mathlib.Omega.{arith}
-use lib.ListN.{take}
-use Rattle.product.specs.Bit.{Bit}
-use Rattle.product.specs.Lines.{columns, encoded}
-use Rattle.product.specs.Product.{lines-from}
-use Rattle.gates.specs.Code.{bits-of}
-use Rattle.write.specs.Rooms.{CountsAre}
-use Rattle.write.proofs.Passes.{plain-front, plain-long, plain-fit, plain-bits, plain-behind, count-fits}
+use native.Mathlib.Numerals.{add-one}
+use lib.IntN.{ℤ}
+use lib.ListN.{length, take}
+use Rattle.product.specs.Bit.{given, numbered}
+use Rattle.product.specs.Product.{product-made, lines-from}
+use Rattle.product.specs.Write.{unfit}
+use Rattle.product.proofs.Given.{unfit-of, numbered-fit}
+use Rattle.write.specs.Rooms.{Writable, CountsAre}
+use Rattle.write.proofs.Passes.{plain-front, plain-long, count-fits}
 use borrow.Author.Needs.{needs}
 use Rattle.write.proofs.counted.Statement.{statement}
 use Rattle.write.proofs.counted.Tie as tie
 
-slice-aggregate-codes : tie.Need-slice-aggregate-codes
-slice-aggregate-codes c =
-    let l = c .before .before .literals in
-    let s = c .before .before .before .before .before in
-    let w = s .args .w in
-    sym (plain-long w (l .last .1 .0) (s .pre .1) (plain-front w (l .last .1 .0) (s .pre .1) (l .ensures)))
+-- the front of the array is the variables 1 to w
+front : (c : tie.After-literals) → let w = c .before .before .before .args .w in take w (c .literals .last .1 .0) ≡ numbered 1 w
+front c = let s = c .before .before .before in plain-front (s .args .w) (c .literals .last .1 .0) (s .pre .1) (c .literals .ensures)
 
-codes-requires : tie.Need-codes-requires
-codes-requires c κs =
-    let l = c .before .before .before .literals in
-    let s = c .before .before .before .before .before .before in
-    let w = s .args .w in
-    let x = l .last .1 .0 in
-    let e = plain-front w x (s .pre .1) (l .ensures) in
-    (plain-fit w x (s .pre .1) e, omega (arith, s .pre .1), omega (arith, plain-long w x (s .pre .1) e, s .pre .1))
+long : (c : tie.After-literals) → let w = c .before .before .before .args .w in length (take w (c .literals .last .1 .0)) ≡ w
+long c = let s = c .before .before .before in plain-long (s .args .w) (c .literals .last .1 .0) (s .pre .1) (c .literals .ensures)
 
-write-lines-requires : tie.Need-write-lines-requires
-write-lines-requires c κs =
-    let o = c .before .before .before in
-    let l = o .before .before .before .before .literals in
-    let s = o .before .before .before .before .before .before .before in
-    let a = s .args in
-    let x = l .last .1 .0 in
-    let codes = o .codes .last .1 .1 .0 in
+slice-aggregate-pass : tie.Need-slice-aggregate-pass
+slice-aggregate-pass c = sym (long (c .before .before))
+
+pass-requires : tie.Need-pass-requires
+pass-requires c κs =
+    let l = c .before .before .before .before in
+    let s = l .before .before .before in
+    let w = s .args .w in
+    let x = take w (l .literals .last .1 .0) in
+    let ok : Writable (length x) (s .args .recipe .now) (s .args .n) =
+    subst (λ (k : ℕ). Writable k (s .args .recipe .now) (s .args .n)) (sym (long l)) (s .pre .0) in
     record {
-      lines = s .pre .0;
-      width = s .pre .1;
-      next-pos = omega arith;
-      next-fits = count-fits (a .w) (a .recipe .now) (a .n) (bits-of (take (a .w) codes)) (s .pre .1) (s .pre .0);
-      long = o .codes .kept .1 .1 .0;
-      blank = plain-behind (a .w) x (s .pre .1) (plain-front (a .w) x (s .pre .1) (l .ensures)) codes (o .codes .ensures);
+      lines = ok;
+      width = omega (arith, long l, s .pre .1);
+      fit = ap₂ (λ (n : ℕ) (y : List ℤ). unfit n y) (add-one w) (front l) ∙ unfit-of _ (numbered 1 w) (numbered-fit w);
+      first-pos = omega arith;
+      first-fits = omega (arith, s .pre .1);
+      next-fits = omega (
+        arith,
+        count-fits (s .args .recipe .now) (s .args .n) x (omega (arith, long l, s .pre .1)) ok,
+        ap (λ (k : ℕ). product-made 0 (lines-from (s .args .recipe .now) 0 (s .args .n)) (given x) (k + 1) .next) (long l),
+      );
+      few-bits = omega arith;
     }
 
 returns : tie.Need-returns
 returns c =
-    let y = c .before .before .write-lines in
-    let o = c .before .before .before .before .before .before in
-    let l = o .before .before .before .before .literals in
-    let s = o .before .before .before .before .before .before .before in
-    let a = s .args in
-    let x = l .last .1 .0 in
-    let b = plain-bits (a .w) x (s .pre .1) (plain-front (a .w) x (s .pre .1) (l .ensures)) (o .codes .last .1 .1 .0) (o .codes .ensures) in
-    subst (λ (x : List Bit). CountsAre (encoded (columns (a .w)) (lines-from (a .recipe .now) 0 (a .n)) (x ∷ []) (a .w + 1)) (a .w + 1) (y .result)) b
-    (record { next-is = y .ensures .next-is; words-are = y .ensures .words-are; clauses-are = y .ensures .clauses-are; grows = y .ensures .grows })
+    let y = c .before .before .pass in
+    let l = c .before .before .before .before .before .before .before in
+    let s = l .before .before .before in
+    let w = s .args .w in
+    subst (λ (x : List ℤ). CountsAre (product-made 0 (lines-from (s .args .recipe .now) 0 (s .args .n)) (given x) (w + 1)) (w + 1)
+    (y .result)) (front l) (y .ensures .counts)
 
 pub counted-spec : {M : Type 1} → statement M
 counted-spec =
     tie.close
-    (tie.spec (λ c. search needs) (λ c κs. search needs) (λ c. search needs) (λ c. search needs) (λ c. search needs) slice-aggregate-codes
-    (λ c. search needs) codes-requires (λ c. search needs) (λ c. search needs) (λ c. search needs) (λ c. search needs) (λ c. search needs)
-    (λ c. search needs) write-lines-requires returns)
+    (tie.spec (λ c. search needs) (λ c κs. search needs) (λ c. search needs) slice-aggregate-pass (λ c. search needs)
+    (λ c. search needs) (λ c. search needs) (λ c. search needs) (λ c. search needs) (λ c. search needs) (λ c. search needs)
+    (λ c. search needs) pass-requires returns)

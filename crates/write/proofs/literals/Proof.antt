@@ -9,20 +9,20 @@ use lib.Seq.{sets}
 use mir.Syntax.{w32}
 use mir.Val.{toZ}
 use mir.ValLaws.{toZ-pos}
-use Rattle.write.specs.Terms.{table, plain-literal}
-use Rattle.write.proofs.Tables.{table-more}
+use Rattle.write.specs.Terms.{listed, plain-literal}
+use Rattle.write.proofs.Tables.{listed-more}
 use borrow.Author.Needs.{needs}
 use Rattle.write.proofs.literals.Statement.{statement}
 use Rattle.write.proofs.literals.Tie as tie
 
 abbrev Inv-loop : tie.InvT-loop
-Inv-loop w out₀ j₀ out j = (j ≤ w) × (length out ≡ length out₀) × (out ≡ sets out₀ 0 (table plain-literal j))
+Inv-loop w out₀ j₀ out j = (j ≤ w) × (length out ≡ length out₀) × (out ≡ sets out₀ 0 (listed plain-literal j))
 
 abbrev μ-loop : tie.MeasureT-loop
 μ-loop w out₀ j₀ out j = w - j
 
 loop-holds : tie.Need-loop-holds Inv-loop μ-loop
-unfolding table
+unfolding listed
 loop-holds c = (omega arith, refl, refl)
 
 loop-again : tie.Need-loop-again Inv-loop μ-loop
@@ -32,7 +32,8 @@ loop-again c =
     let e : toZ w32 (l .j + 1) ≡ plain-literal (l .j) = toZ-pos w32 _ (omega (arith, c .loop-test .taken, c .before .before .pre .0)) in (
       omega (arith, c .loop-test .taken),
       length-set (l .out) (l .j) (toZ w32 (l .j + 1)) ∙ l .inv .1,
-      ap (λ (x : List ℤ). set x (l .j) (toZ w32 (l .j + 1))) (l .inv .2) ∙ table-more (a .out .now) plain-literal (l .j) (toZ w32 (l .j + 1)) e,
+      ap (λ (x : List ℤ). set x (l .j) (toZ w32 (l .j + 1))) (l .inv .2)
+          ∙ listed-more (a .out .now) plain-literal (l .j) (toZ w32 (l .j + 1)) e,
     )
 
 same-length : tie.Need-same-length Inv-loop μ-loop
@@ -47,5 +48,5 @@ returns c =
 pub literals-spec : {M : Type 1} → statement M
 literals-spec =
     tie.close
-    (tie.spec Inv-loop μ-loop loop-holds (λ c. search needs) (λ c. search needs) (λ c. search needs)
-    (λ c. search needs) (λ c. search needs) (λ c. search needs) loop-again same-length returns)
+    (tie.spec Inv-loop μ-loop loop-holds (λ c. search needs) (λ c. search needs) (λ c. search needs) (λ c. search needs)
+    (λ c. search needs) (λ c. search needs) loop-again same-length returns)

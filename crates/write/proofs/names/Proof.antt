@@ -22,7 +22,8 @@ returns c =
     let a = c .before .before .before .before .before .args in
     let l = c .before .before .before .before .loop in
     let z = getD (a .x .now) (l .k) (pos 0) in
-    let e : c .before .named .result ≡ named z = c .before .named .ensures .0 ∙ ap natAbs (toZ-ofZ w32 z (record { sfits = c .before .before .named-arg .given })) in
+    let e : c .before .named .result ≡ named z =
+    c .before .named .ensures .0 ∙ ap natAbs (toZ-ofZ w32 z (record { sfits = c .before .before .named-arg .given })) in
     sym (l .inv ∙ names-hit (a .v) (a .x .now) (l .k) (c .before .before .before .loop-test .taken) (sym e ∙ c .if1 .taken))
 
 loop-again : tie.Need-loop-again Inv-loop μ-loop
@@ -30,7 +31,8 @@ loop-again c =
     let a = c .before .before .before .before .before .args in
     let l = c .before .before .before .before .loop in
     let z = getD (a .x .now) (l .k) (pos 0) in
-    let e : c .before .named .result ≡ named z = c .before .named .ensures .0 ∙ ap natAbs (toZ-ofZ w32 z (record { sfits = c .before .before .named-arg .given })) in
+    let e : c .before .named .result ≡ named z =
+    c .before .named .ensures .0 ∙ ap natAbs (toZ-ofZ w32 z (record { sfits = c .before .before .named-arg .given })) in
     l .inv ∙ names-miss (a .v) (a .x .now) (l .k) (c .before .before .before .loop-test .taken) (λ q. c .if1 .left (e ∙ q))
 
 returns-2 : tie.Need-returns-2 Inv-loop μ-loop
@@ -42,4 +44,5 @@ returns-2 c =
 pub names-spec : {M : Type 1} → statement M
 names-spec =
     tie.close
-    (tie.spec Inv-loop μ-loop (λ c. refl) (λ c. omega arith) (λ c. omega arith) (λ c κs. tt) returns (λ c. omega arith) (λ c. omega arith) loop-again returns-2)
+    (tie.spec Inv-loop μ-loop (λ c. refl) (λ c. omega arith) (λ c. omega arith) (λ c κs. tt) returns (λ c. omega arith)
+    (λ c. omega arith) loop-again returns-2)

@@ -18,13 +18,15 @@ returns : tie.Need-returns Inv-loop μ-loop
 returns c =
     let a = c .before .before .before .before .args in
     let l = c .before .before .before .loop in
-    sym (l .inv ∙ unfit-hit (a .first) (a .x .now) (l .i) (c .before .before .loop-test .taken) (sym (c .before .unfit-at .ensures) ∙ c .if1 .taken))
+    sym (l .inv ∙ unfit-hit (a .first) (a .x .now) (l .i) (c .before .before .loop-test .taken)
+    (sym (c .before .unfit-at .ensures) ∙ c .if1 .taken))
 
 loop-again : tie.Need-loop-again Inv-loop μ-loop
 loop-again c =
     let a = c .before .before .before .before .args in
     let l = c .before .before .before .loop in
-    l .inv ∙ unfit-miss (a .first) (a .x .now) (l .i) (c .before .before .loop-test .taken) (sym (c .before .unfit-at .ensures) ∙ c .if1 .left)
+    l .inv ∙ unfit-miss (a .first) (a .x .now) (l .i) (c .before .before .loop-test .taken)
+    (sym (c .before .unfit-at .ensures) ∙ c .if1 .left)
 
 returns-2 : tie.Need-returns-2 Inv-loop μ-loop
 returns-2 c =

@@ -1,4 +1,4 @@
--- `product::write_y`: the entries, if they fit.
+-- `write::write_y`: the entries, if they fit.
 use native.Mathlib.Omega.{arith}
 use borrow.Author.Needs.{needs}
 use Rattle.write.proofs.write_y.Statement.{statement}

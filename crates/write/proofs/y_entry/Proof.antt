@@ -1,4 +1,4 @@
--- `product::y_entry`: a zero below t, then a bit's word.
+-- `write::y_entry`: a zero below t, then a bit's word.
 use mathlib.Core.Path.{refl, _∙_}
 use mir.Syntax.{w32}
 use mir.ValLaws.{toZ-ofZ}
@@ -14,7 +14,8 @@ returns c = simp (lt-ltb _ _ (c .if1 .taken)) refl
 
 returns-2 : tie.Need-returns-2
 unfolding y-entry
-returns-2 c = toZ-ofZ w32 (c .word .result) (record { sfits = c .word .ok }) ∙ (c .word .ensures ∙ simp (le-ltb _ _ (c .before .before .if1 .left)))
+returns-2 c =
+    toZ-ofZ w32 (c .word .result) (record { sfits = c .word .ok }) ∙ (c .word .ensures ∙ simp (le-ltb _ _ (c .before .before .if1 .left)))
 
 pub y-entry-spec : {M : Type 1} → statement M
 y-entry-spec =

@@ -53,8 +53,14 @@ pub +put-decimal-spec : {M : Type 1} → statement M
     (λ c. omega arith)
     (λ c κs.
     let p = c .before .before .before in
-    omega (arith, digits-more (p .before .before .before .before .args .n) (p .before .before .if1 .left), p .put-decimal .ensures .ends, p .put-decimal .kept .0))
+    omega (
+      arith,
+      digits-more (p .before .before .before .before .args .n) (p .before .before .if1 .left),
+      p .put-decimal .ensures .ends,
+      p .put-decimal .kept .0,
+    ))
     (λ c. c .before .before .put-byte2 .kept .0 ∙ c .before .before .before .before .before .before .put-decimal .kept .0)
     (λ c.
     let p = c .before .before .before .before .before .before in
-    rw (decimal-more (p .before .before .before .before .args .n) (p .before .before .if1 .left)) (put-two (p .put-decimal .ensures) (c .before .before .put-byte2 .ensures)))
+    rw (decimal-more (p .before .before .before .before .args .n) (p .before .before .if1 .left))
+    (put-two (p .put-decimal .ensures) (c .before .before .put-byte2 .ensures)))

@@ -23,8 +23,12 @@ loop-again : tie.Need-loop-again Inv-loop μ-loop
 loop-again c = let p = c .before .before in
     let l = p .before .before .before .before .loop in
     let a = p .before .before .before .before .before .before .before .args in
-    let q = put-two (l .inv .3) (p .put-byte .ensures) in
-    (omega arith, omega (arith, p .put-byte .ensures .ends), p .put-byte .kept .0 ∙ l .inv .2, rw (add-one, take-suc (a .b .now) (l .i) 0 (omega arith)) q)
+    let q = put-two (l .inv .3) (p .put-byte .ensures) in (
+      omega arith,
+      omega (arith, p .put-byte .ensures .ends),
+      p .put-byte .kept .0 ∙ l .inv .2,
+      rw (add-one, take-suc (a .b .now) (l .i) 0 (omega arith)) q,
+    )
 
 same-length : tie.Need-same-length Inv-loop μ-loop
 same-length c = c .before .loop .inv .2
@@ -35,14 +39,5 @@ returns c = rw (take-all (c .before .loop .i) (c .before .before .before .before
 pub put-bytes-spec : {M : Type 1} → statement M
 put-bytes-spec =
     tie.close
-    (tie.spec
-    Inv-loop
-    μ-loop
-    loop-holds
-    (λ c. omega arith)
-    (λ c κs. omega arith)
-    (λ c. omega arith)
-    (λ c. omega arith)
-    loop-again
-    same-length
-    returns)
+    (tie.spec Inv-loop μ-loop loop-holds (λ c. omega arith) (λ c κs. omega arith) (λ c. omega arith) (λ c. omega arith) loop-again
+    same-length returns)

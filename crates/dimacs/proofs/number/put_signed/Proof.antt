@@ -22,34 +22,38 @@ put-byte-requires c κs = let s = c .before .before .before in
 put-decimal-requires : tie.Need-put-decimal-requires
 put-decimal-requires c κs = let p = c .before .before .before .before in
     let s = p .before .before .before .before in
-    omega (arith, ap length (signed-minus (s .args .z) (sign (s .args .z) true (s .fits .z) (p .before .before .if1 .taken))), p .put-byte .ensures .ends, p .put-byte .kept .0, ap (λ (x : ℕ). length (decimal x)) (c .named .ensures .0 ∙ ap natAbs (toZ-ofZ w32 (s .args .z) (s .fits .z))))
+    omega (
+      arith,
+      ap length (signed-minus (s .args .z) (sign (s .args .z) true (s .fits .z) (p .before .before .if1 .taken))),
+      p .put-byte .ensures .ends,
+      p .put-byte .kept .0,
+      ap (λ (x : ℕ). length (decimal x)) (c .named .ensures .0 ∙ ap natAbs (toZ-ofZ w32 (s .args .z) (s .fits .z))),
+    )
 
 returns : tie.Need-returns
 returns c = let q = c .before .before in
     let p = q .before .before .before .before .before in
     let s = p .before .before .before .before in
     let e = signed-minus (s .args .z) (sign (s .args .z) true (s .fits .z) (p .before .before .if1 .taken)) in
-    rw e (put-two {b = 45 ∷ []} (p .put-byte .ensures) (rw (q .before .named .ensures .0 ∙ ap natAbs (toZ-ofZ w32 (s .args .z) (s .fits .z))) at (q .put-decimal .ensures)))
+    rw e (put-two {b = 45 ∷ []} (p .put-byte .ensures)
+    (rw (q .before .named .ensures .0 ∙ ap natAbs (toZ-ofZ w32 (s .args .z) (s .fits .z))) at (q .put-decimal .ensures)))
 
 put-decimal-requires-2 : tie.Need-put-decimal-requires-2
 put-decimal-requires-2 c κs = let s = c .before .before .before .before in
-    omega (arith, ap length (signed-plain (s .args .z) (sign (s .args .z) false (s .fits .z) (c .before .before .if1 .left))), ap (λ (x : ℕ). length (decimal x)) (c .named2 .ensures .0 ∙ ap natAbs (toZ-ofZ w32 (s .args .z) (s .fits .z))))
+    omega (
+      arith,
+      ap length (signed-plain (s .args .z) (sign (s .args .z) false (s .fits .z) (c .before .before .if1 .left))),
+      ap (λ (x : ℕ). length (decimal x)) (c .named2 .ensures .0 ∙ ap natAbs (toZ-ofZ w32 (s .args .z) (s .fits .z))),
+    )
 
 returns-2 : tie.Need-returns-2
 returns-2 c = let q = c .before .before in
     let s = q .before .before .before .before .before in
-    rw (signed-plain (s .args .z) (sign (s .args .z) false (s .fits .z) (q .before .before .before .if1 .left))) (rw (q .before .named2 .ensures .0 ∙ ap natAbs (toZ-ofZ w32 (s .args .z) (s .fits .z))) at (q .put-decimal2 .ensures))
+    rw (signed-plain (s .args .z) (sign (s .args .z) false (s .fits .z) (q .before .before .before .if1 .left)))
+    (rw (q .before .named2 .ensures .0 ∙ ap natAbs (toZ-ofZ w32 (s .args .z) (s .fits .z))) at (q .put-decimal2 .ensures))
 
 pub put-signed-spec : {M : Type 1} → statement M
 put-signed-spec =
     tie.close
-    (tie.spec
-    put-byte-requires
-    (λ c κs. omega arith)
-    put-decimal-requires
-    (λ c. omega arith)
-    returns
-    (λ c κs. omega arith)
-    put-decimal-requires-2
-    (λ c. omega arith)
-    returns-2)
+    (tie.spec put-byte-requires (λ c κs. omega arith) put-decimal-requires (λ c. omega arith) returns (λ c κs. omega arith)
+    put-decimal-requires-2 (λ c. omega arith) returns-2)

@@ -10,7 +10,8 @@ returns : tie.Need-returns
 returns c = let p = c .before .before in
     let k = p .before .before in
     let r = k .before .before in
-    rw (printed-as (r .before .before .before .args .input .now) Malformed (sym (r .read-request .ensures) ∙ k .enum-told .given .1)) (p .put-refusal .ensures)
+    rw (printed-as (r .before .before .before .args .input .now) Malformed (sym (r .read-request .ensures) ∙ k .enum-told .given .1))
+    (p .put-refusal .ensures)
 
 returns-2 : tie.Need-returns-2
 returns-2 c = let p = c .before .before in
@@ -21,13 +22,5 @@ returns-2 c = let p = c .before .before in
 pub put-answer-spec : {M : Type 1} → statement M
 put-answer-spec =
     tie.close
-    (tie.spec
-    (λ c κs. omega arith)
-    (λ c. omega arith)
-    (λ c. omega arith)
-    (λ c κs. omega arith)
-    (λ c. omega arith)
-    returns
-    (λ c κs. omega arith)
-    (λ c. omega arith)
-    returns-2)
+    (tie.spec (λ c κs. omega arith) (λ c. omega arith) (λ c. omega arith) (λ c κs. omega arith) (λ c. omega arith) returns
+    (λ c κs. omega arith) (λ c. omega arith) returns-2)

@@ -6,6 +6,7 @@ use lib.ListN.{replicate}
 use Rattle.dimacs.proofs.Shown.{written-fits, written-shown}
 use Rattle.dimacs.proofs.print.put_recipe.Statement.{statement}
 use Rattle.dimacs.proofs.print.put_recipe.Tie as tie
+use Rattle.dimacs.specs.Sizes.{program-bits}
 
 put-written-requires : tie.Need-put-written-requires
 put-written-requires c κs = let w = c .before .before .before .before .before in
@@ -13,8 +14,9 @@ put-written-requires c κs = let w = c .before .before .before .before .before i
     let a = k .before .before .before .args in
     let hb = w .write-plain .kept .1 .1 .1 .0 in
     let hw = w .write-plain .kept .1 .1 .1 .1 .0 in (
-      written-fits (a .c) (a .w) (a .recipe .now) (replicate 32 (pos 0)) (k .word-room .result) (w .write-plain .result) (w .write-plain .last .1 .1 .1 .0) (w .write-plain .last .1 .1 .1 .1 .0)
-          (record { answered = w .write-plain .ensures .0; bits-left = w .write-plain .ensures .1 .0; clauses-left = w .write-plain .ensures .1 .1 }) hb hw,
+      written-fits (a .c) (a .w) (a .recipe .now) (replicate program-bits (pos 0)) (k .word-room .result) (w .write-plain .result)
+          (w .write-plain .last .1 .1 .1 .0) (w .write-plain .last .1 .1 .1 .1 .0)
+          (w .write-plain .ensures) hb hw,
       omega (arith, hb, hw, k .word-room .ensures),
     )
 
@@ -23,19 +25,12 @@ returns c = let p = c .before .before in
     let w = p .before .before .before .before .before .before in
     let k = w .before .before .before in
     let a = k .before .before .before .args in
-    rw (sym (written-shown (a .c) (a .w) (a .recipe .now) (replicate 32 (pos 0)) (k .word-room .result) (w .write-plain .result) (w .write-plain .last .1 .1 .1 .0) (w .write-plain .last .1 .1 .1 .1 .0)
-    (record { answered = w .write-plain .ensures .0; bits-left = w .write-plain .ensures .1 .0; clauses-left = w .write-plain .ensures .1 .1 }) refl (sym (k .word-room .ensures)))) (p .put-written .ensures)
+    rw (sym (written-shown (a .c) (a .w) (a .recipe .now) (replicate program-bits (pos 0)) (k .word-room .result) (w .write-plain .result)
+    (w .write-plain .last .1 .1 .1 .0) (w .write-plain .last .1 .1 .1 .1 .0)
+    (w .write-plain .ensures) refl (sym (k .word-room .ensures)))) (p .put-written .ensures)
 
 pub put-recipe-spec : {M : Type 1} → statement M
 put-recipe-spec =
     tie.close
-    (tie.spec
-    (λ c κs. omega arith)
-    (λ c. omega arith)
-    (λ c. omega arith)
-    (λ c κs. omega arith)
-    (λ c. omega arith)
-    (λ c. omega arith)
-    put-written-requires
-    (λ c. omega arith)
-    returns)
+    (tie.spec (λ c κs. omega arith) (λ c. omega arith) (λ c. omega arith) (λ c κs. omega arith) (λ c. omega arith) (λ c. omega arith)
+    put-written-requires (λ c. omega arith) returns)

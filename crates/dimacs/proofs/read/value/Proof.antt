@@ -27,8 +27,11 @@ add-v c = omega (arith, ten (c .before .before .before .loop .i) (omega arith))
 
 loop-again : tie.Need-loop-again Inv-loop μ-loop
 loop-again c = let l = c .before .before .before .loop in
-    let s = c .before .before .before .before .before .args .s .now in
-    (omega arith, omega (arith, value-next s (l .i) (omega arith)), ten-more (l .v) (c .digit .result) (l .i) (l .inv .2) (c .digit .ensures .1))
+    let s = c .before .before .before .before .before .args .s .now in (
+      omega arith,
+      omega (arith, value-next s (l .i) (omega arith)),
+      ten-more (l .v) (c .digit .result) (l .i) (l .inv .2) (c .digit .ensures .1),
+    )
 
 returns : tie.Need-returns Inv-loop μ-loop
 returns c = c .before .loop .inv .1 ∙ ap value-of (take-all (c .before .loop .i) (c .before .before .before .args .s .now) (omega arith))
@@ -36,15 +39,5 @@ returns c = c .before .loop .inv .1 ∙ ap value-of (take-all (c .before .loop .
 pub value-spec : {M : Type 1} → statement M
 value-spec =
     tie.close
-    (tie.spec
-    Inv-loop
-    μ-loop
-    loop-holds
-    mul-v
-    (λ c. omega arith)
-    (λ c κs. tt)
-    add-v
-    (λ c. omega arith)
-    (λ c. omega arith)
-    loop-again
+    (tie.spec Inv-loop μ-loop loop-holds mul-v (λ c. omega arith) (λ c κs. tt) add-v (λ c. omega arith) (λ c. omega arith) loop-again
     returns)

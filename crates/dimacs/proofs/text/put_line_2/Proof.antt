@@ -15,10 +15,4 @@ returns c = let b = c .before .before in
 pub put-line-2-spec : {M : Type 1} → statement M
 put-line-2-spec =
     tie.close
-    (tie.spec
-    (λ c. omega arith)
-    (λ c κs. omega arith)
-    (λ c κs. omega arith)
-    (λ c κs. omega arith)
-    (λ c. omega arith)
-    returns)
+    (tie.spec (λ c. omega arith) (λ c κs. omega arith) (λ c κs. omega arith) (λ c κs. omega arith) (λ c. omega arith) returns)

@@ -12,9 +12,4 @@ returns c = let b = c .before .before in
 pub put-two-numbers-spec : {M : Type 1} → statement M
 put-two-numbers-spec =
     tie.close
-    (tie.spec
-    (λ c κs. omega arith)
-    (λ c. omega arith)
-    (λ c κs. omega arith)
-    (λ c. omega arith)
-    returns)
+    (tie.spec (λ c κs. omega arith) (λ c. omega arith) (λ c κs. omega arith) (λ c. omega arith) returns)

@@ -16,7 +16,8 @@ use Rattle.dimacs.proofs.text.put_words.Statement.{statement}
 use Rattle.dimacs.proofs.text.put_words.Tie as tie
 
 abbrev Inv-loop : tie.InvT-loop
-Inv-loop out₀ at words e₀ i₀ out e i = (i ≤ length words) × (e ≤ at + 12 * i) × (length out ≡ length out₀) × Put out₀ out at e (words-text (take i words))
+Inv-loop out₀ at words e₀ i₀ out e i =
+    (i ≤ length words) × (e ≤ at + 12 * i) × (length out ≡ length out₀) × Put out₀ out at e (words-text (take i words))
 
 abbrev μ-loop : tie.MeasureT-loop
 μ-loop out₀ at words e₀ i₀ out e i = length words - i
@@ -32,27 +33,24 @@ loop-again c =
     let a = p .before .before .before .before .before .before .args in
     let z = getD (a .words .now) (l .i) (pos 0) in
     let h = p .before .put-word-arg2 .given in
-    let w = rw (toZ-ofZ w32 z (record { sfits = h })) at (p .put-word .ensures) in
-    (omega arith, omega (arith, w .ends, word-text-short z h), p .put-word .kept .0 ∙ l .inv .2, rw (words-more (a .words .now) (l .i) (pos 0) (omega arith)) (put-two (l .inv .3) w))
+    let w = rw (toZ-ofZ w32 z (record { sfits = h })) at (p .put-word .ensures) in (
+      omega arith,
+      omega (arith, w .ends, word-text-short z h),
+      p .put-word .kept .0 ∙ l .inv .2,
+      rw (words-more (a .words .now) (l .i) (pos 0) (omega arith)) (put-two (l .inv .3) w),
+    )
 
 same-length : tie.Need-same-length Inv-loop μ-loop
 same-length c = c .before .loop .inv .2
 
 returns : tie.Need-returns Inv-loop μ-loop
-returns c = (rw (take-all (c .before .loop .i) (c .before .before .before .args .words .now) (omega arith)) at (c .before .loop .inv .3), omega arith)
+returns c = (
+  rw (take-all (c .before .loop .i) (c .before .before .before .args .words .now) (omega arith)) at (c .before .loop .inv .3),
+  omega arith,
+)
 
 pub put-words-spec : {M : Type 1} → statement M
 put-words-spec =
     tie.close
-    (tie.spec
-    Inv-loop
-    μ-loop
-    loop-holds
-    (λ c. omega arith)
-    (λ c. omega arith)
-    (λ c κs. omega arith)
-    (λ c. omega arith)
-    (λ c. omega arith)
-    loop-again
-    same-length
-    returns)
+    (tie.spec Inv-loop μ-loop loop-holds (λ c. omega arith) (λ c. omega arith) (λ c κs. omega arith) (λ c. omega arith)
+    (λ c. omega arith) loop-again same-length returns)

@@ -1,4 +1,4 @@
--- `Written::told` meets its contract, case by case. Assumes nothing.
+-- `product::Written::told` meets its contract, case by case. Assumes nothing.
 use mathlib.Core.Path.{sym, ap, _∙_}
 use borrow.Author.Needs.{needs}
 use Rattle.product.specs.Write.{written-told}

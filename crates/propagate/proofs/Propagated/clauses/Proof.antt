@@ -1,4 +1,4 @@
--- `Propagated::clauses` meets its contract, case by case. Assumes nothing.
+-- `propagate::Propagated::clauses` meets its contract, case by case. Assumes nothing.
 use mathlib.Core.Path.{sym, ap}
 use borrow.Author.Needs.{needs}
 use Rattle.propagate.specs.Pass.{clauses-read}

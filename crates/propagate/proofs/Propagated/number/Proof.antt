@@ -1,4 +1,4 @@
--- `Propagated::number` meets its contract, case by case. Assumes nothing.
+-- `propagate::Propagated::number` meets its contract, case by case. Assumes nothing.
 use mathlib.Core.Path.{sym, ap, _∙_}
 use native.Mathlib.Omega.{arith}
 use borrow.Author.Needs.{needs}

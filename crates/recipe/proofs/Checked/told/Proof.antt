@@ -1,4 +1,4 @@
--- `Checked::told` meets its contract, case by case. Assumes nothing.
+-- `recipe::Checked::told` meets its contract, case by case. Assumes nothing.
 use mathlib.Core.Path.{sym, ap, _∙_}
 use borrow.Author.Needs.{needs}
 use Rattle.recipe.specs.Check.{checked-told}

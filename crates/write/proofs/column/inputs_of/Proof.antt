@@ -1,4 +1,4 @@
--- `column::inputs_of`: the first pair, or the fixed input and the others.
+-- `write::column::inputs_of`: the first pair, or the fixed input and the others.
 use Rattle.write.proofs.CodeColumns.{first-seen, second-seen, third-seen, left-fixed, right-fixed, carry-fixed, none-fixed}
 use borrow.Author.Needs.{needs}
 use Rattle.write.proofs.column.inputs_of.Statement.{statement}
@@ -53,5 +53,5 @@ returns-7 c =
 pub inputs-of-spec : {M : Type 1} → statement M
 inputs-of-spec =
     tie.close
-    (tie.spec (λ c κs. search needs) returns (λ c κs. search needs) returns-2 (λ c κs. search needs) returns-3 returns-4 returns-5 returns-6
-    returns-7)
+    (tie.spec (λ c κs. search needs) returns (λ c κs. search needs) returns-2 (λ c κs. search needs) returns-3 returns-4 returns-5
+    returns-6 returns-7)

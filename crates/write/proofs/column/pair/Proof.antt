@@ -1,4 +1,4 @@
--- `column::pair`: equal or opposite.
+-- `write::column::pair`: equal or opposite.
 use borrow.Author.Tests.{eq-eqb, ne-eqb}
 use Rattle.write.specs.Column.{pair-of-codes}
 use Rattle.write.proofs.column.pair.Statement.{statement}

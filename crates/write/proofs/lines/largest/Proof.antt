@@ -1,4 +1,4 @@
--- `lines::largest`: 2^w, shifted out of 1, less 1.
+-- `write::lines::largest`: 2^w, shifted out of 1, less 1.
 use native.Mathlib.Omega.{arith}
 use Rattle.write.proofs.CodeLines.{power}
 use borrow.Author.Needs.{needs}

@@ -1,4 +1,4 @@
--- `lines::term_bit`: one column of a term.
+-- `write::lines::term_bit`: one column of a term.
 use borrow.Author.Tests.{lt-ltb, le-ltb}
 use Rattle.write.specs.Terms.{term-code}
 use borrow.Author.Needs.{needs}
@@ -16,5 +16,4 @@ returns-2 c = simp (le-ltb _ _ (c .before .before .if1 .left)) (c .flipped2 .ens
 pub term-bit-spec : {M : Type 1} → statement M
 term-bit-spec =
     tie.close
-    (tie.spec (λ c κs. search needs) (λ c. search needs) (λ c. search needs) (λ c κs. search needs) returns
-    returns-2)
+    (tie.spec (λ c κs. search needs) (λ c. search needs) (λ c. search needs) (λ c κs. search needs) returns returns-2)

@@ -1,0 +1,61 @@
+-- `compare_writes::run`: each record leaves fewer, and every room keeps its length.
+use mathlib.Core.Path.{_≡_, refl, _∙_}
+use native.Mathlib.Omega.{arith}
+use lib.ListN.{length}
+use borrow.Author.Needs.{needs}
+use Rattle.compare_writes.proofs.run.Statement.{statement}
+use Rattle.compare_writes.proofs.run.Tie as tie
+
+abbrev Inv-loop : tie.InvT-loop
+Inv-loop bytes₀ x₀ recipe₀ bits₀ clauses₀ left₀ bytes x recipe bits clauses left =
+    (length bytes ≡ length bytes₀) × (length x ≡ length x₀) × (length recipe ≡ length recipe₀) × (length bits ≡ length bits₀)
+    × (length clauses ≡ length clauses₀)
+
+abbrev μ-loop : tie.MeasureT-loop
+μ-loop bytes₀ x₀ recipe₀ bits₀ clauses₀ left₀ bytes x recipe bits clauses left = left
+
+loop-holds : tie.Need-loop-holds Inv-loop μ-loop
+loop-holds c = (refl, refl, refl, refl, refl)
+
+step-requires : tie.Need-step-requires Inv-loop μ-loop
+step-requires c κs =
+    let i = c .before .before .before .before .before in
+    let l = i .before .loop in
+    let fit = i .before .before .before .before .pre in (
+      i .loop-test .taken,
+      record {
+        bytes-fit = omega (arith, l .inv .0, fit .bytes-fit);
+        x-fits = omega (arith, l .inv .1, fit .x-fits);
+        recipe-fits = omega (arith, l .inv .2, fit .recipe-fits);
+        bits-fit = omega (arith, l .inv .3, fit .bits-fit);
+        clauses-fit = omega (arith, l .inv .4, fit .clauses-fit);
+      },
+    )
+
+loop-again : tie.Need-loop-again Inv-loop μ-loop
+loop-again c =
+    let d = c .before .before .before .before .before .before .before in
+    let k = d .step .kept .1 in
+    let l = d .before .before .before .before .before .before .before .loop in
+    (k .0 ∙ l .inv .0, k .1 .0 ∙ l .inv .1, k .1 .1 .0 ∙ l .inv .2, k .1 .1 .1 .0 ∙ l .inv .3, k .1 .1 .1 .1 .0 ∙ l .inv .4)
+
+same-length : tie.Need-same-length Inv-loop μ-loop
+same-length c = c .before .loop .inv .0
+
+same-length-2 : tie.Need-same-length-2 Inv-loop μ-loop
+same-length-2 c = c .before .loop .inv .1
+
+same-length-3 : tie.Need-same-length-3 Inv-loop μ-loop
+same-length-3 c = c .before .loop .inv .2
+
+same-length-4 : tie.Need-same-length-4 Inv-loop μ-loop
+same-length-4 c = c .before .loop .inv .3
+
+same-length-5 : tie.Need-same-length-5 Inv-loop μ-loop
+same-length-5 c = c .before .loop .inv .4
+
+pub run-spec : {M : Type 1} → statement M
+run-spec =
+    tie.close
+    (tie.spec Inv-loop μ-loop loop-holds step-requires (λ c. search needs) loop-again same-length same-length-2 same-length-3
+    same-length-4 same-length-5 (λ c. search needs))
