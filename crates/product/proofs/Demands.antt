@@ -2,8 +2,8 @@
 --
 -- A call gets a constant c, a width w, literals for x, the first free number, a recipe's bytes and two rooms of words. Its contract fixes
 -- the answer and both rooms at exit as those of `written c w x first recipe bits clauses` (crates/product/specs/Write.antt). What is
--- said below is said of any answer and any two rooms at exit that are what `written` leaves, and so of the call. An answer is no refusal where its
--- number is 0. Then its counts tell which part of the rooms was written: the first `words-used` words of the clause room at exit and the
+-- said below is said of any answer and any two rooms at exit that are what `written` leaves, and so of the call. An answer is no refusal
+-- where its number is 0. Then its counts tell which part of the rooms was written: the first `words-used` words of the clause room at exit and the
 -- first `bits-of-y` entries of the bit room at exit. Everything below is said of these words and entries, as they stand in the rooms, and
 -- of no list of clauses beside them.
 --

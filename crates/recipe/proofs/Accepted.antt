@@ -8,9 +8,9 @@
 --
 -- Why. A line is kept exactly when it is right (`judged-says` of Judged, and back). The check is a list of tests in their order, which
 -- refuses nothing exactly where each test is kept (`kept-all` and `all-kept` of line's Order); so each test's fact holds, and where each
--- fact holds every test is kept, whatever their order. Two parts of `Right` have no test of their own, since five bytes cannot break them: a
--- kind has two bits and a coefficient twenty. For the lines this is one induction: the walk from line i + 1 over n lines refuses nothing
--- exactly when these n lines are kept. The claimed coefficient is what the kind gives exactly where `claims` says so (Claims).
+-- fact holds every test is kept, whatever their order. Two parts of `Right` have no test of their own, since five bytes cannot break
+-- them: a kind has two bits and a coefficient twenty. For the lines this is one induction: the walk from line i + 1 over n lines refuses
+-- nothing exactly when these n lines are kept. The claimed coefficient is what the kind gives exactly where `claims` says so (Claims).
 --
 -- What follows of an accepted recipe: every operand's coefficient is odd, and below 2^20 (`coefficient-lt` of Walk), so every line has s of
 -- at least 1. Assumes nothing.

@@ -1,7 +1,7 @@
 -- The loop over the columns of a sum: what holds after j columns, where it begins, and one column more.
 use Prim.Native.Nat.{ℕ, suc, _+_, _-_, _*_, _<_, _≤_}
 use mathlib.Core.Path.{_≡_, refl, sym, ap, ap₂, _∙_}
-use mathlib.Core.Bool.{Bool, false}
+use mathlib.Core.Bool.{Bool}
 use mathlib.Core.List.{List, [], _∷_, _++_, append-nil, append-assoc, map-append}
 use mathlib.Core.Logic.{⊎-elim}
 use native.Mathlib.Omega.{arith}
@@ -16,8 +16,8 @@ use borrow.Rule.Slice.PartMut.{putMid, midOf}
 use Rattle.cnf.specs.Clause.{Clause}
 use Rattle.cnf.specs.Words.{words}
 use Rattle.cnf.proofs.Words.{words-append}
-use Rattle.product.specs.Bit.{Bit, fixed}
-use Rattle.product.specs.Column.{column}
+use Rattle.product.specs.Bit.{Bit}
+use Rattle.product.specs.Column.{Column, column}
 use Rattle.product.specs.Lines.{Sum, none-left, adder}
 use Rattle.gates.specs.Code.{bit-of, bits-of}
 use Rattle.gates.specs.Gate.{taken, after}
@@ -89,34 +89,36 @@ module _ (left right : List ℕ) (first m : ℕ) (from : Place) (sums₀ : List 
         ∙ sym (ne-eqb (j + 1) m (λ e. omega arith)))
         (eq-or-lt-of-le {n = suc j} {m = m} h)
 
-    column-at : (carry free j : ℕ) → j < m
-        → column (getD (bits-of left) j (fixed false)) (getD (bits-of right) j (fixed false)) (bit-of carry)
-        (none-left (drop (suc j) (bits-of left))) free
-        ≡ column (bit-of (getD left j 0)) (bit-of (getD right j 0)) (bit-of carry) (eqb (j + 1) m) free
-    column-at carry free j h =
-        ap₂ (λ (a b : Bit). column a b (bit-of carry) (none-left (drop (suc j) (bits-of left))) free) (bit-at left j) (bit-at right j)
-        ∙ ap (λ (t : Bool). column (bit-of (getD left j 0)) (bit-of (getD right j 0)) (bit-of carry) t free) (last-is j h)
+    -- column j, of codes
+    abbrev column-made : ℕ → ℕ → ℕ → Column
+    column-made carry free j = column (bit-of (getD left j 0)) (bit-of (getD right j 0)) (bit-of carry) (eqb (j + 1) m) free
+
+    -- the rest from column j on is this column, and then the rest behind it
+    column-step : (carry free j : ℕ) → j < m → let k = column-made carry free j in
+        let all = rest (bits-of left) (bits-of right) j (bit-of carry) free in
+        let behind = rest (bits-of left) (bits-of right) (suc j) (k .carry-bit) (k .next) in
+        (all .bits ≡ k .sum-bit ∷ behind .bits) × (all .clauses ≡ k .clauses ++ behind .clauses) × (all .next ≡ behind .next)
+    column-step carry free j h =
+        rest-step (bits-of left) (bits-of right) j (bit-of carry) free (column-made carry free j)
+        (omega (arith, length-map left bit-of)) (omega (arith, length-map right bit-of))
+        (ap₂ (λ (a b : Bit). column a b (bit-of carry) (none-left (drop (suc j) (bits-of left))) free) (bit-at left j) (bit-at right j)
+        ∙ ap (λ (t : Bool). column (bit-of (getD left j 0)) (bit-of (getD right j 0)) (bit-of carry) t free) (last-is j h))
 
     -- a column's next free variable is at most that of the whole
     pub column-fits : (sums : List ℕ) (room : List ℤ) (carry free used n j k : ℕ) → j < m
         → Upto-column whole (bits-of left) (bits-of right) from sums₀ room₀ sums room carry free used n j → whole .next ≤ k
-        → column (bit-of (getD left j 0)) (bit-of (getD right j 0)) (bit-of carry) (eqb (j + 1) m) free .next ≤ k
+        → column-made carry free j .next ≤ k
     unfolding rest
     column-fits sums room carry free used n j k h u f =
-        let xs = bits-of left in
-        let ys = bits-of right in
-        let col = column (bit-of (getD left j 0)) (bit-of (getD right j 0)) (bit-of carry) (eqb (j + 1) m) free in
-        let e : column (getD xs j (fixed false)) (getD ys j (fixed false)) (bit-of carry) (none-left (drop (suc j) xs)) free ≡ col =
-        column-at carry free j h in
-        let s =
-        rest-step xs ys j (bit-of carry) free col (omega (arith, length-map left bit-of)) (omega (arith, length-map right bit-of)) e in
-        omega (arith, f, u .next-is, s .2, adder-grows (drop (suc j) xs) (drop (suc j) ys) (col .carry-bit) (col .next) .0)
+        let col = column-made carry free j in
+        let later = adder-grows (drop (suc j) (bits-of left)) (drop (suc j) (bits-of right)) (col .carry-bit) (col .next) .0 in
+        omega (arith, f, u .next-is, column-step carry free j h .2, later)
 
     -- one column more, lent the rest of the room from `start` on
     pub sum-goes-on : (sums : List ℕ) (room : List ℤ) (carry free used n j : ℕ) → j < m
         → Upto-column whole (bits-of left) (bits-of right) from sums₀ room₀ sums room carry free used n j
         → (c : MadeColumn)
-        → MatchesColumn free c (column (bit-of (getD left j 0)) (bit-of (getD right j 0)) (bit-of carry) (eqb (j + 1) m) free)
+        → MatchesColumn free c (column-made carry free j)
         → (start : ℕ) → start ≤ length room → (used ≤ length room → start ≡ used)
         → (took : Taken) → took ≡ taken (made-clauses c)
         → (part : List ℤ) → part ≡ after (made-clauses c) (midOf start (length room - start) room)
@@ -130,11 +132,8 @@ module _ (left right : List ℕ) (first m : ℕ) (from : Place) (sums₀ : List 
         let few = column-few (c .parity) (c .majority) in
         let xs = bits-of left in
         let ys = bits-of right in
-        let col = column (bit-of (getD left j 0)) (bit-of (getD right j 0)) (bit-of carry) (eqb (j + 1) m) free in
-        let e : column (getD xs j (fixed false)) (getD ys j (fixed false)) (bit-of carry) (none-left (drop (suc j) xs)) free ≡ col =
-        column-at carry free j h in
-        let s =
-        rest-step xs ys j (bit-of carry) free col (omega (arith, length-map left bit-of)) (omega (arith, length-map right bit-of)) e in
+        let col = column-made carry free j in
+        let s = column-step carry free j h in
         let R = rest xs ys (j + 1) (bit-of (c .carry)) (c .next) in
         let same : rest xs ys (suc j) (col .carry-bit) (col .next) ≡ R =
         ap₂ (λ (x : Bit) (y : ℕ). rest xs ys (suc j) x y) (sym (g .carry)) (sym (g .next))

@@ -24,7 +24,8 @@ bits c = let a = c .before .before .args in room-kept (a .bits) (a .size) BitRoo
 returns : tie.Need-returns
 returns c =
     let a = c .before .args in
-    sym (first-hit [] _ (room-tests (a .size) (a .words) (a .bits) (a .clauses)) Variables tt (room-hits most-next (a .next) Variables (c .if1 .taken)))
+    sym (first-hit [] _ (room-tests (a .size) (a .words) (a .bits) (a .clauses)) Variables tt
+    (room-hits most-next (a .next) Variables (c .if1 .taken)))
 
 returns-2 : tie.Need-returns-2
 returns-2 c =
