@@ -1,1 +1,3 @@
 // Cases worked outside, as numbers: no call is named here.
+
+#![tactic(auto)]

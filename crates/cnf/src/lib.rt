@@ -1,5 +1,7 @@
 // Clauses and their meaning: definitions and laws, and the variable that a word names.
 
+#![tactic(auto)]
+
 ghost use Rattle.std.specs.Prelude.{◌≡◌, ◌≤◌, ◌^◌};
 ghost use Rattle.cnf.specs.Words.{named};
 

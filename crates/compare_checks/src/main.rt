@@ -1,6 +1,8 @@
 // Reads records from standard input, each a constant and a recipe, and prints a line for each: the number of the check's refusal, or 0,
 // the bad line and the value that it gives. A record that the input cuts off gets none.
 
+#![tactic(auto)]
+
 ghost use Rattle.std.specs.Prelude.{◌≡◌, ◌≤◌, ◌<◌, ◌^◌, length};
 ghost use Rattle.compare_checks.specs.Record.{constant_of, told_of};
 

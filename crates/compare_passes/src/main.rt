@@ -4,6 +4,8 @@
 // allowance (8); then the words and the literals (4 bytes each, with 2^31 added), and the room. A line is the refusal's number, the clauses
 // read and a sum over the room.
 
+#![tactic(auto)]
+
 ghost use Rattle.std.specs.Prelude.{◌≡◌, ◌<◌, ◌≤◌, ◌^◌, length};
 
 use libc::{STDIN_FILENO, STDOUT_FILENO};

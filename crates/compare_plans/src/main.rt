@@ -2,6 +2,8 @@
 // room (2) and of the recipe room (1), and whether the work room is to be shown (1). Writes six bytes for each: the refusal's number or 0,
 // the lines, and a checksum of both rooms at exit (4), every byte of which was 7; then the work room, if it is to be shown.
 
+#![tactic(auto)]
+
 ghost use Rattle.std.specs.Prelude.{◌≡◌, ◌<◌, length};
 
 use libc::{STDIN_FILENO, STDOUT_FILENO};

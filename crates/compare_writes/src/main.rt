@@ -4,6 +4,8 @@
 // room (2); then the literals (4 bytes each, two's complement) and the recipe. A line is the refusal's number, the bad line and the value
 // that it gives, words, clauses, next free number, bits of y, and a sum over both rooms.
 
+#![tactic(auto)]
+
 ghost use Rattle.std.specs.Prelude.{◌≡◌, ◌+◌, ◌*◌, ◌<◌, ◌≤◌, ◌^◌, length};
 ghost use Rattle.compare_writes.specs.Rooms.{Rooms};
 

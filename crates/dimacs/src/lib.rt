@@ -1,5 +1,7 @@
 // The text of a request and of a DIMACS file.
 
+#![tactic(auto)]
+
 mod number;
 mod print;
 mod read;

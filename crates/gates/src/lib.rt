@@ -1,5 +1,7 @@
 // The clauses of a column: bits as codes, gates of codes, and the words of gates.
 
+#![tactic(auto)]
+
 ghost use Rattle.std.specs.Prelude.{◌≡◌, ◌+◌, ◌≤◌, length};
 ghost use Rattle.std.proofs.lemmas.List.Edits.{sets};
 ghost use Rattle.cnf.specs.Words.{word, words};

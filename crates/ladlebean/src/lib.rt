@@ -1,6 +1,8 @@
 // The archive for C: plan, check, write and one pass over words, over numbers and slices. A slice passes as a pointer and a length; each
 // field of an answer has a pointer to one number, and the refusal's number is the result.
 
+#![tactic(auto)]
+
 ghost use Rattle.plan.specs.Plan.{planned};
 ghost use Rattle.recipe.specs.Check.{checked, checked_told};
 ghost use Rattle.product.specs.Write.{written, plain_written};

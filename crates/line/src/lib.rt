@@ -1,5 +1,7 @@
 // One recipe line: its fields, its forty bits and its limits; and the refusals that every call answers with.
 
+#![tactic(auto)]
+
 ghost use Rattle.std.specs.Prelude.{◌≡◌, ◌+◌, ◌*◌, ◌%◌, ◌<◌, ◌≤◌, ◌^◌, pos, ◌-ℤ◌, nat_abs, get_or};
 ghost use Rattle.line.specs.Number.{bit_length, twos, odd_part};
 ghost use Rattle.line.specs.Line.{gives_within, number, line_of, forty_bits, bytes_of};

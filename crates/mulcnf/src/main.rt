@@ -1,4 +1,7 @@
 // The program: what `dimacs` answers to standard input goes to standard output.
+
+#![tactic(auto)]
+
 ghost use Rattle.wording.specs.Print.{file_room};
 ghost use Rattle.std.specs.Prelude.{◌≡◌, length};
 

@@ -1,5 +1,7 @@
 // The product of x and a constant as clauses: what writing answers.
 
+#![tactic(auto)]
+
 ghost use Rattle.std.specs.Prelude.{◌≡◌};
 ghost use Rattle.product.specs.Write.{written_told, counts_of};
 

@@ -1,5 +1,7 @@
 // One pass of unit propagation over words, with an allowance of clauses. It believes only the clauses.
 
+#![tactic(auto)]
+
 ghost use Rattle.std.specs.Prelude.{◌≡◌, ◌<◌, ◌≤◌, length};
 ghost use Rattle.propagate.specs.Clause.{wanted, with_literal, reading_clause};
 ghost use Rattle.propagate.specs.Pass.{propagating, turn_of, room_of, passed, given_rest, all_unknown, unknowns, propagated};

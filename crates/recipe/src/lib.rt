@@ -1,5 +1,7 @@
 // Which recipes are right: the check of a recipe that anyone proposed.
 
+#![tactic(auto)]
+
 ghost use Rattle.std.specs.Prelude.{◌≡◌, ℕ, ◌/◌, ◌<◌, ◌≤◌, ◌^◌, length, get_or};
 ghost use Rattle.line.specs.Limits.{line_bytes, most_lines};
 ghost use Rattle.recipe.specs.Check.{line_at, judged, form_judged, product_at, recipe_judged, checked, checked_told};

@@ -1,5 +1,7 @@
 // The planner's rule: definitions and laws.
 
+#![tactic(auto)]
+
 // The best split so far and its cost; the split 0 is none.
 #[derive(Drop)]
 pub struct Best {

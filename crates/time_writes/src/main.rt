@@ -3,6 +3,8 @@
 // width 16 so often, in rooms that are never too short, and prints the words of all, modulo 2^32, with one more for each time that the
 // middle word ends a clause.
 
+#![tactic(auto)]
+
 ghost use Rattle.std.specs.Prelude.{◌≡◌, ◌<◌, ◌≤◌, ◌^◌, length};
 
 use libc::{STDIN_FILENO, STDOUT_FILENO};

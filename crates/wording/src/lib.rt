@@ -1,5 +1,7 @@
 // What a request asks, and what is answered to it.
 
+#![tactic(auto)]
+
 #[derive(Drop)]
 pub enum Request {
     Asked(u32, u32),

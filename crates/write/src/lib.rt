@@ -1,5 +1,7 @@
 // Writing: the clauses of an accepted recipe, word by word.
 
+#![tactic(auto)]
+
 mod column;
 mod lines;
 

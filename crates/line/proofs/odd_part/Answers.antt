@@ -4,14 +4,10 @@ use Prim.Native.Nat.{ℕ, ◌/◌, ◌^◌}
 use borrow.Author.Rules.{rules}
 use lib.Pow.{shr_le}
 use Rattle.line.specs.Number.{odd_part}
-use Rattle.line.proofs.odd_part.Statement.{statement}
-use Rattle.line.proofs.odd_part.Tie as tie
+use Rattle.line.proofs.odd_part.Goals as goal
 
-returns : tie.Need-returns
+pub returns : goal.returns
 unfolding odd_part
 returns c =
-    let v = c.before.args.c in
+    let v = c.args.c in
     (ap (λ (t : ℕ). v / 2 ^ t) c.twos.ensures.0, shr_le v c.twos.result)
-
-pub odd_part_spec : {M : Type 1} → statement M
-odd_part_spec = tie.close (tie.spec (λ c κs. search rules) (λ c. search rules) returns)

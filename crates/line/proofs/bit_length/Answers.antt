@@ -7,20 +7,17 @@ use lib.Dec.{lit<, lit≤}
 use lib.Count.{count_leading_zeros, leading_le}
 use Rattle.line.specs.Number.{bit_length}
 use Rattle.line.proofs.Number.{bits_leading}
-use Rattle.line.proofs.bit_length.Statement.{statement}
-use Rattle.line.proofs.bit_length.Tie as tie
+use Rattle.line.proofs.bit_length.Goals as goal
 
+-- `line::bit_length` meets its contract: what leading zeros leave of 64 digits. Assumes nothing.
 digits_left : (v : ℕ) → v < 2 ^ 64 → (64 - count_leading_zeros 64 v ≡ bit_length v) × (64 - count_leading_zeros 64 v ≤ 64)
 digits_left v h = omega (arith, bits_leading 64 v h)
 
-cast-result : tie.Need-overflow-cast-result
-cast-result c = record { fits = lt_of_le_of_lt (leading_le 64 _) (lit< tt) }
+pub overflow_cast-result : goal.overflow_cast-result
+overflow_cast-result c = record { fits = lt_of_le_of_lt (leading_le 64 _) (lit< tt) }
 
-sub-result : tie.Need-overflow-sub-result
-sub-result c = le_trans (leading_le 64 _) (lit≤ tt)
+pub overflow_sub-result : goal.overflow_sub-result
+overflow_sub-result c = le_trans (leading_le 64 _) (lit≤ tt)
 
-returns : tie.Need-returns
+pub returns : goal.returns
 returns c = digits_left c.args.v c.ranges.v.fits
-
-pub bit_length_spec : {M : Type 1} → statement M
-bit_length_spec = tie.close (tie.spec cast-result sub-result returns)
