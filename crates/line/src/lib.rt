@@ -9,7 +9,7 @@ ghost use Rattle.line.specs.Limits.{out_of_range, not_a_width};
 ghost use Rattle.line.specs.Refusal.{told, refusal_number};
 
 // The fields of a line in the order of its forty bits.
-#[derive(Drop)]
+#[derive(Clone, Copy)]
 pub struct Line {
     pub top: u64,
     pub kind: u64,
