@@ -32,20 +32,20 @@ pub negated_odd : (b : ℕ) → (b % 2 ≡ 0 → ⊥) → negated_code b ≡ b -
 unfolding negated_code
 negated_odd b e = ap (λ (t : Bool). cond t (b + 1) (b - 1)) (ne_eqb (b % 2) 0 e)
 
+even_or_odd_by : {A : Type 0} (b : ℕ) → (b % 2 ≡ 0 → A) → ((b % 2 ≡ 0 → ⊥) → A) → (t : Bool) → eqb (b % 2) 0 ≡ t → A
+even_or_odd_by b f g true e = f (eqb-true (b % 2) 0 e)
+even_or_odd_by b f g false e = g (eqb-false (b % 2) 0 e)
+
 pub even_or_odd : {A : Type 0} (b : ℕ) → (b % 2 ≡ 0 → A) → ((b % 2 ≡ 0 → ⊥) → A) → A
-even_or_odd {A} b f g =
-    let go : (t : Bool) → eqb (b % 2) 0 ≡ t → A =
-    λ t. elim t [ true ↦ λ e. f (eqb-true (b % 2) 0 e) | false ↦ λ e. g (eqb-false (b % 2) 0 e) ] in
-    go (eqb (b % 2) 0) refl
+even_or_odd b f g = even_or_odd_by b f g (eqb (b % 2) 0) refl
+
+by_odd_at : {A : Type 0} (f : ℕ) → (f % 2 ≡ 1 → is_odd f ≡ true → A) → (f % 2 ≡ 0 → is_odd f ≡ false → A) → (t : Bool) → is_odd f ≡ t → A
+by_odd_at f g h true e = g (sym (odd_mod f) ∙ ap num e) e
+by_odd_at f g h false e = h (sym (odd_mod f) ∙ ap num e) e
 
 -- the parity of f, in the two ways that it is said
 by_odd : {A : Type 0} (f : ℕ) → (f % 2 ≡ 1 → is_odd f ≡ true → A) → (f % 2 ≡ 0 → is_odd f ≡ false → A) → A
-by_odd {A} f g h =
-    let go : (t : Bool) → is_odd f ≡ t → A = λ t. elim t [
-      | true ↦ λ e. g (sym (odd_mod f) ∙ ap num e) e
-      | false ↦ λ e. h (sym (odd_mod f) ∙ ap num e) e
-    ] in
-    go (is_odd f) refl
+by_odd f g h = by_odd_at f g h (is_odd f) refl
 
 -- ---- literals
 

@@ -35,7 +35,7 @@ pub fn word(b: u32) -> i32
 // ---- gates
 
 // The clauses that tie a new variable to its inputs. The last code is the new variable's, or that of its negation.
-#[derive(Drop)]
+#[derive(Clone, Copy)]
 pub enum Gate {
     Empty,
     ParityOfTwo(u32, u32, u32),
@@ -45,7 +45,7 @@ pub enum Gate {
 }
 
 // The words and the clauses that something takes.
-#[derive(Drop)]
+#[derive(Clone, Copy)]
 pub struct Taken {
     pub words: usize,
     pub clauses: usize,

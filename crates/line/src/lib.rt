@@ -224,7 +224,7 @@ pub fn magnitude(z: i64) -> u64
 
 // Why a call refuses: document 01's list, in its order, and then document 02's. Those that speak of a recipe's line hold its number, from 1
 // on, and the last of them the value that the line really gives.
-#[derive(Drop)]
+#[derive(Clone, Copy)]
 pub enum Refusal {
     Constant,
     Width,
@@ -248,14 +248,14 @@ pub enum Refusal {
 }
 
 // What one test of a call says: nothing against it, or why the call refuses.
-#[derive(Drop)]
+#[derive(Clone, Copy)]
 pub enum Verdict {
     Kept,
     Broken(Refusal),
 }
 
 // What an answer tells of a refusal: the documents' number, the line and the value; zero where there is none.
-#[derive(Drop)]
+#[derive(Clone, Copy)]
 pub struct Told {
     pub number: u64,
     pub line: usize,

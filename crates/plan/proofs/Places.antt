@@ -13,7 +13,7 @@ use borrow.Author.Tests.{eq-eqb, ne_eqb, ltb-true, leb-true}
 use Rattle.line.specs.Line.{Kind, kind_of, minuss, sminus, splus}
 use Rattle.line.specs.Number.{bit_length, odd_part, twos}
 use Rattle.split.specs.Choose.{Cost, best_below}
-use Rattle.split.specs.Split.{high, legal, legal_at, low}
+use Rattle.split.specs.Split.{high, legal, legal_at}
 use Rattle.plan.specs.Steps.{Places}
 use Rattle.line.proofs.Number.{lt_or_le, bits_lt, odd_part_odd, odd_part_whole}
 use Rattle.split.proofs.Choose.{as_legal, best_skip}

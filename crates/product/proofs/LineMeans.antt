@@ -13,7 +13,7 @@ use lib.IntN.{pos}
 use lib.ListN.{length}
 use Rattle.line.specs.Line.{Kind, splus, sminus, minuss, gives}
 use Rattle.line.proofs.Value.{Sums, sums_of_gives}
-use Rattle.cnf.specs.Clause.{Assignment, value, satisfies}
+use Rattle.cnf.specs.Clause.{Assignment, satisfies}
 use Rattle.cnf.proofs.Extend.{Extends, Fresh}
 use Rattle.product.specs.Bit.{Bit, fixed, flip, bit_value, reads}
 use Rattle.product.specs.Lines.{adder, shifted, fitted, line_sum}

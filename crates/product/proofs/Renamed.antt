@@ -275,17 +275,19 @@ module _ (ρ : Renaming) where
   pub adder_renamed : {n m : ℕ} → Renames ρ n m → (ls rs : List Bit) (c c' : Bit) → c' ≡ bit_renamed ρ c
       → SumRenamed n m (adder ls rs c n) (adder (bits_renamed ρ ls) (bits_renamed ρ rs) c' m)
   unfolding adder
-  adder_renamed {n} {m} h [] rs c c' e = nothing_renamed n m
-  adder_renamed {n} {m} h (l ∷ ls) [] c c' e = nothing_renamed n m
-  adder_renamed {n} {m} h (l ∷ []) (r ∷ rs) c c' e =
+  adder_renamed {n = n} {m = m} h [] rs c c' e = nothing_renamed n m
+  adder_renamed {n = n} {m = m} h (l ∷ ls) [] c c' e = nothing_renamed n m
+  adder_renamed {n = n} {m = m} h (l ∷ []) (r ∷ rs) c c' e =
       let k : ColumnRenamed n m (column l r c true n) (column (bit_renamed ρ l) (bit_renamed ρ r) c' true m) =
       rw (e) (column_renamed h l r c true) in
-      sum_step k (adder_renamed (renames_more k.opened h k.next k.next') [] rs (column l r c true n).carry_bit
+      sum_step k (adder_renamed {n = (column l r c true n).next} {m = (column (bit_renamed ρ l) (bit_renamed ρ r) c' true m).next}
+      (renames_more k.opened h k.next k.next') [] rs (column l r c true n).carry_bit
       (column (bit_renamed ρ l) (bit_renamed ρ r) c' true m).carry_bit k.carry_bit)
-  adder_renamed {n} {m} h (l ∷ o ∷ ls) (r ∷ rs) c c' e =
+  adder_renamed {n = n} {m = m} h (l ∷ o ∷ ls) (r ∷ rs) c c' e =
       let k : ColumnRenamed n m (column l r c false n) (column (bit_renamed ρ l) (bit_renamed ρ r) c' false m) =
       rw (e) (column_renamed h l r c false) in
-      sum_step k (adder_renamed (renames_more k.opened h k.next k.next') (o ∷ ls) rs (column l r c false n).carry_bit
+      sum_step k (adder_renamed {n = (column l r c false n).next} {m = (column (bit_renamed ρ l) (bit_renamed ρ r) c' false m).next}
+      (renames_more k.opened h k.next k.next') (o ∷ ls) rs (column l r c false n).carry_bit
       (column (bit_renamed ρ l) (bit_renamed ρ r) c' false m).carry_bit k.carry_bit)
 
   -- ---- a line
@@ -345,12 +347,12 @@ module _ (ρ : Renaming) where
   pub encoded_renamed : {n m : ℕ} → Renames ρ n m → (f : ℕ → ℕ) (ls : List Line) (os os' : List (List Bit)) → os' ≡ operands_renamed os
       → EncodedRenamed n m (encoded f ls os n) (encoded f ls os' m)
   unfolding encoded
-  encoded_renamed h f [] os os' e = record { operands = e; clauses = refl; opened = 0; next = omega arith; next' = omega arith }
-  encoded_renamed {n} {m} h f (l ∷ ls) os os' e =
+  encoded_renamed {n = n} {m = m} h f [] os os' e = record { operands = e; clauses = refl; opened = 0; next = omega arith; next' = omega arith }
+  encoded_renamed {n = n} {m = m} h f (l ∷ ls) os os' e =
       let s : Sum = line_encoded f l os n in
       let s' : Sum = line_encoded f l os' m in
       let a : SumRenamed n m s s' = rw (e) (line_encoded_renamed h f l os) in
-      let b = encoded_renamed (renames_more a.opened h a.next a.next') f ls (os ++ (s.bits ∷ [])) (os' ++ (s'.bits ∷ []))
+      let b = encoded_renamed {n = s.next} {m = s'.next} (renames_more a.opened h a.next a.next') f ls (os ++ (s.bits ∷ [])) (os' ++ (s'.bits ∷ []))
       (ap₂ (λ (o : List (List Bit)) (x : List Bit). o ++ (x ∷ [])) e a.bits ∙ sym (map-append (bits_renamed ρ) os (s.bits ∷ []))) in
       record {
         operands = b.operands;

@@ -8,7 +8,7 @@ ghost use Rattle.product.specs.Write.{written_told, counts_of};
 use line::{Refusal, Told};
 
 // What a success counts.
-#[derive(Drop)]
+#[derive(Clone, Copy)]
 pub struct Counts {
     pub words: usize,
     pub clauses: usize,
@@ -16,7 +16,7 @@ pub struct Counts {
     pub bits: usize,
 }
 
-#[derive(Drop)]
+#[derive(Clone, Copy)]
 pub enum Written {
     Clauses(Counts),
     Refused(Refusal),

@@ -2,7 +2,7 @@
 -- unknown, or a literal is 0, beyond the room, or of a variable given before.
 use Prim.Native.Nat.{ℕ, zero, suc, ◌-◌, ◌≤◌, ◌<◌}
 use mathlib.Core.Path.{◌≡◌, refl, ap, ◌∙◌, subst}
-use mathlib.Core.Logic.{◌⊎◌, ⊎_elim}
+use mathlib.Core.Logic.{⊎_elim}
 use mathlib.Core.Bool.{Bool, true, false, cond, ◌&&◌, ◌||◌, false≢true}
 use mathlib.Core.List.{List, [], ◌∷◌}
 use native.Mathlib.Decide.{ℕ_discrete}
@@ -59,7 +59,8 @@ held_more g gs room e = go (not_given g room) refl e
     go true q f = absurd (false≢true f)
     go false q f = (takes g room q, f)
 
-held_unknown : (gs : List ℤ) (room : List ℕ) (v : ℕ) → (given_rest gs room).held ≡ true → names v gs ≡ true → (0 < v) × (2 ≤ value_at room v)
+held_unknown : (gs : List ℤ) (room : List ℕ) (v : ℕ) → (given_rest gs room).held ≡ true → names v gs ≡ true
+    → (0 < v) × (2 ≤ value_at room v)
 held_unknown [] room v e m = absurd (false≢true m)
 held_unknown (g ∷ gs) room v e m =
     let h = held_more g gs room e in

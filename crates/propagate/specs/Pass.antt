@@ -1,5 +1,6 @@
 -- One pass of unit propagation: the clauses once, in order, with an allowance; and the call around it.
-use Rattle.std.specs.Prelude.{ℕ, zero, suc, ◌-◌, Bool, true, false, cond, ◌&&◌, ◌||◌, List, [], ◌∷◌, eqb, ltb, ℤ, length, drop, set, replicate}
+use Rattle.std.specs.Prelude.{ℕ, zero, suc, ◌-◌, Bool, true, false, cond, ◌&&◌, ◌||◌, List, [], ◌∷◌, eqb, ltb, ℤ, length, drop, set}
+use Rattle.std.specs.Prelude.{replicate}
 use Rattle.line.specs.Refusal.{refusal_number}
 use Rattle.cnf.specs.Words.{named}
 use Rattle.propagate.specs.Clause.{wanted, value_at, reading_clause}

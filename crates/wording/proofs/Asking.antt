@@ -25,7 +25,8 @@ pub front_high : (s : List ℕ) (i : ℕ) → i < length s → 57 < get_or s i 0
 unfolding front
 front_high s i h p = ap front (drop-cons s i 0 h) ∙ simp (le-ltb (get_or s i 0) 48 (omega arith), lt-ltb 57 (get_or s i 0) p)
 
-pub front_more : (s : List ℕ) (i : ℕ) → i < length s → 48 ≤ get_or s i 0 → get_or s i 0 ≤ 57 → front (drop i s) ≡ suc (front (drop (i + 1) s))
+pub front_more : (s : List ℕ) (i : ℕ) → i < length s → 48 ≤ get_or s i 0 → get_or s i 0 ≤ 57
+    → front (drop i s) ≡ suc (front (drop (i + 1) s))
 unfolding front
 front_more s i h p q = ap front (drop-cons s i 0 h) ∙ simp (le-ltb (get_or s i 0) 48 p, le-ltb 57 (get_or s i 0) q, add-one i)
 
@@ -81,6 +82,7 @@ module _ (s : List ℕ) (a : ℕ) (e : a ≡ front s) where
   unfolding asked
   request_other p q l h = simp (sym e, ne_eqb a 0 p, le-ltb 5 a q, ne_eqb a (length s) l, ne_eqb (get_or s a 0) 32 h)
 
-  pub request_on : (a ≡ 0 → ⊥) → a ≤ 5 → (a ≡ length s → ⊥) → get_or s a 0 ≡ 32 → width_asked (value_of (take a s)) (drop (a + 1) s) ≡ asked s
+  pub request_on : (a ≡ 0 → ⊥) → a ≤ 5 → (a ≡ length s → ⊥) → get_or s a 0 ≡ 32
+      → width_asked (value_of (take a s)) (drop (a + 1) s) ≡ asked s
   unfolding asked
   request_on p q l h = simp (sym e, ne_eqb a 0 p, le-ltb 5 a q, ne_eqb a (length s) l, eq-eqb (get_or s a 0) 32 h)

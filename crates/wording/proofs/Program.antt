@@ -1,6 +1,6 @@
 -- The program: it lends a buffer of ten bytes and a room of 262,144, and hands on the bytes that the answer counts. Whatever its input,
 -- these are what document 01 prints; ten bytes are enough, since a longer input is malformed as its first ten are. Assumes nothing.
-use Prim.Native.Nat.{ℕ, ◌+◌, ◌≤◌, ◌<◌}
+use Prim.Native.Nat.{ℕ, ◌≤◌, ◌<◌}
 use mathlib.Core.Path.{◌≡◌, refl, sym, ap, ◌∙◌}
 use mathlib.Core.List.{List, [], ◌∷◌, ◌++◌}
 use native.Mathlib.Decide.{dec_le}

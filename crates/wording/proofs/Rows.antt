@@ -39,4 +39,5 @@ pub words_more : (ys : List ℤ) (i : ℕ) (d : ℤ) → i < length ys
 unfolding words_text
 words_more ys i d h =
     rw (add-one, take-suc ys i d h)
-    (words_append (take i ys) (get_or ys i d ∷ []) ∙ ap (λ (t : List ℕ). words_text (take i ys) ++ t) (nil_right (word_text (get_or ys i d))))
+    (words_append (take i ys) (get_or ys i d ∷ [])
+    ∙ ap (λ (t : List ℕ). words_text (take i ys) ++ t) (nil_right (word_text (get_or ys i d))))

@@ -1,7 +1,7 @@
 -- The loop over the lines of a recipe: operands in a scratch room, what holds after i lines, where it begins, and one line more.
 use Prim.Native.Nat.{ℕ, suc, ◌+◌, ◌-◌, ◌*◌, ◌%◌, ◌^◌, ◌<◌, ◌≤◌}
 use mathlib.Core.Path.{◌≡◌, refl, sym, ap, ap₂, subst, ◌∙◌}
-use mathlib.Core.Logic.{◌⊎◌, ⊎_elim}
+use mathlib.Core.Logic.{⊎_elim}
 use mathlib.Core.List.{List, [], ◌∷◌, ◌++◌, map, append-nil, append_assoc}
 use mathlib.Core.Bool.{true, false}
 use native.Mathlib.Omega.{arith}

@@ -12,7 +12,7 @@ use gates::{Gate, flipped};
 
 // An equal pair's literal and the input that remains; the input that remains beside an opposite pair; the fixed input and the other two in
 // their order; three unfixed inputs.
-#[derive(Drop)]
+#[derive(Clone, Copy)]
 pub enum Inputs {
     Equal(u32, u32),
     Opposite(u32),
@@ -59,14 +59,14 @@ fn inputs_of(left: u32, right: u32, carry: u32) -> Inputs
 // ---- a column
 
 // A bit, its gate, and the next free variable.
-#[derive(Drop)]
+#[derive(Clone, Copy)]
 pub struct MadeBit {
     pub bit: u32,
     pub gate: Gate,
     pub next: u32,
 }
 
-#[derive(Drop)]
+#[derive(Clone, Copy)]
 pub struct MadeColumn {
     pub sum: u32,
     pub carry: u32,

@@ -18,7 +18,7 @@ use line::Line;
 // ---- a sum of two terms
 
 // Where writing stands: the next free variable, and the words and clauses so far.
-#[derive(Drop)]
+#[derive(Clone, Copy)]
 pub struct Place {
     pub next: u32,
     pub words: usize,

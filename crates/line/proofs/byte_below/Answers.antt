@@ -1,6 +1,5 @@
 -- `line::byte_below` meets its contract. Assumes nothing.
 use native.Mathlib.Omega.{arith}
-use borrow.Author.Rules.{rules}
 use lib.ListN.{get_or-eq_default}
 use Rattle.line.proofs.byte_below.Goals as goal
 

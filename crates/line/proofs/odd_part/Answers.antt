@@ -1,7 +1,6 @@
 -- `line::odd_part` meets its contract. Assumes nothing.
 use mathlib.Core.Path.{ap}
 use Prim.Native.Nat.{ℕ, ◌/◌, ◌^◌}
-use borrow.Author.Rules.{rules}
 use lib.Pow.{shr_le}
 use Rattle.line.specs.Number.{odd_part}
 use Rattle.line.proofs.odd_part.Goals as goal

@@ -1,7 +1,6 @@
 -- `recipe::check` meets its contract. Assumes nothing.
-use mathlib.Core.Path.{◌≡◌, sym, ap, ◌∙◌}
+use mathlib.Core.Path.{sym, ap, ◌∙◌}
 use Prim.Native.Nat.{ℕ}
-use borrow.Author.Rules.{rules}
 use Rattle.line.specs.Order.{answer_by}
 use Rattle.line.proofs.Order.{alone}
 use Rattle.recipe.specs.declared.Checked.TheVariants.{Accepted, Refused}

@@ -1,6 +1,5 @@
 -- `recipe::check_lines` meets its contract. Assumes nothing.
 use mathlib.Core.Path.{sym, ◌∙◌}
-use borrow.Author.Rules.{rules}
 use borrow.Author.Tests.{eq-eqb, ne_eqb}
 use Rattle.recipe.specs.Check.{recipe_judged}
 use Rattle.recipe.proofs.check_lines.Goals as goal

@@ -1,20 +1,15 @@
 -- `recipe::judge` meets its contract: the tests that led to each answer are those of the definition, in its order. Assumes nothing.
-use mathlib.Core.Path.{◌≡◌, ap, ◌∙◌, sym}
+use mathlib.Core.Path.{ap, ◌∙◌, sym}
 use mathlib.Core.Bool.{Bool, false, not}
 use Prim.Native.Nat.{ℕ, ◌+◌}
-use lib.Dec.{eqb}
 use lib.IntN.{ℤ}
-use lib.ListN.{get_or}
-use borrow.Author.Rules.{rules}
 use borrow.Author.Tests.{eq-eqb, ne_eqb, lt-ltb, le-ltb}
-use mir.Syntax.{w64}
-use mir.Val.{of_z}
 use Rattle.line.specs.Order.{refuses}
 use Rattle.line.specs.declared.Refusal.TheVariants.{Value}
 use Rattle.line.proofs.Signed.{held}
 use Rattle.line.proofs.Value.{gives_whole}
 use Rattle.line.specs.declared.Verdict.{Verdict}
-use Rattle.recipe.specs.Check.{claims, value_judged, judged}
+use Rattle.recipe.specs.Check.{value_judged, judged}
 use Rattle.recipe.proofs.Claims.{claims_bits}
 use Rattle.recipe.proofs.Walk.{judged_value}
 use Rattle.recipe.proofs.judge.Goals as goal

@@ -1,15 +1,12 @@
 -- `recipe::judge_lines` meets its contract. The loop's invariant is `Walking`: what is left of the walk is the whole answer, and `seen`
 -- holds the coefficients of the operands before. The measure is the number of lines left. Assumes nothing.
-use mathlib.Core.Path.{◌≡◌, refl, ap, ◌∙◌, sym}
-use Prim.Native.Nat.{ℕ, ◌-◌}
-use mathlib.Core.List.{List}
+use mathlib.Core.Path.{refl, ap, ◌∙◌, sym}
 use native.Mathlib.Omega.{arith}
 use lib.ListN.{length}
-use borrow.Author.Rules.{rules}
 use borrow.Author.Tests.{eq-eqb, ne_eqb, lt-ltb}
 use Rattle.line.specs.declared.Line.{Line}
-use Rattle.recipe.specs.Check.{form_judged, judged_at}
-use Rattle.recipe.proofs.Walk.{Walking, walking_begins, walking_on, walk_end, walk_broken, coefficient_lt, judged_seen}
+use Rattle.recipe.specs.Check.{form_judged}
+use Rattle.recipe.proofs.Walk.{walking_begins, walking_on, walk_end, walk_broken, coefficient_lt, judged_seen}
 use Rattle.recipe.proofs.judge_lines.Goals as goal
 
 pub returns-then-length-ne0 : goal.returns-then-length-ne0

@@ -2,7 +2,6 @@
 use mathlib.Core.Path.{ap, ◌∙◌}
 use mathlib.Core.List.{[], ◌∷◌}
 use Prim.Native.Nat.{◌/◌, ◌^◌}
-use borrow.Author.Rules.{rules}
 use lib.Bits.{and_mask, mask_lt}
 use Rattle.line.specs.Line.{bytes_of}
 use Rattle.line.proofs.Line.bytes.Goals as goal

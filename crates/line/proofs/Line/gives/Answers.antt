@@ -3,7 +3,6 @@ use mathlib.Core.Path.{◌∙◌}
 use native.Mathlib.Omega.{arith}
 use mir.Syntax.{w64}
 use mir.ValLaws.{to_z_pos}
-use borrow.Author.Rules.{rules}
 use Rattle.line.proofs.Value.{gives_splus, gives_sminus, gives_minuss}
 use Rattle.line.proofs.Signed.{held}
 use Rattle.line.proofs.Line.gives.Goals as goal

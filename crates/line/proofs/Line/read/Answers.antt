@@ -1,6 +1,5 @@
 -- `line::Line::read` meets its contract. Assumes nothing.
 use mathlib.Core.Path.{ap, ◌∙◌}
-use borrow.Author.Rules.{rules}
 use Rattle.line.specs.Line.{line_of}
 use Rattle.line.proofs.Line.read.Goals as goal
 
