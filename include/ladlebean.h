@@ -1,4 +1,4 @@
-/* Constant products as SAT clauses: the archive's entry points (target/staticlib/libladlebean.a, by `rt staticlib ladlebean`; x86-64).
+/* Constant products as SAT clauses: the archive's entry points (target/staticlib/libladlebean.a, by `tools/staticlib`; x86-64).
 
    Each call answers 0, or the number of its refusal (docs/REFUSALS.md), and leaves each field of its answer where a pointer says: one
    number each, written in success and in every refusal. A refusal leaves every room as it came and every count 0. `*line` is 0 but in a

@@ -1,4 +1,4 @@
-//! Links the archive that `rt staticlib ladlebean` writes; it is for x86-64.
+//! Links the archive that `tools/staticlib` builds; it is for x86-64.
 
 fn main() {
     let top = std::path::Path::new(env!("CARGO_MANIFEST_DIR")).join("..");

@@ -17,12 +17,12 @@ pub fn table() -> String {
     let rows = [
         field("chosen", chosen()),
         field("planned", planned()),
-        field("plan-rooms", plan_rooms()),
+        field("plan_rooms", plan_rooms()),
         field("checked", checked()),
         field("written", written()),
-        field("write-rooms", write_rooms()),
+        field("write_rooms", write_rooms()),
         field("given", edges::calls().iter().map(given_row).collect()),
-        field("given-rooms", edges::rooms().iter().map(given_rooms_row).collect()),
+        field("given_rooms", edges::rooms().iter().map(given_rooms_row).collect()),
         field("propagated", passes::calls().iter().map(propagated_row).collect()),
         field("printed", printed()),
     ];
@@ -30,14 +30,12 @@ pub fn table() -> String {
 }
 
 const HEAD: &str = "-- The second engine's answers. Printed by `second cases`; do not edit.
-use Prim.Native.Nat.{ℕ}
-use mathlib.Core.List.{List, [], _∷_}
-use lib.IntN.{ℤ, pos, negsuc}
-use Rattle·cases·specs.specs.Table.{Table}
+use Rattle.std.specs.Prelude.{ℕ, List, [], ◌∷◌, ℤ, pos, negsuc}
+use Rattle.cases.specs.Table.{Table}
 
 -- the chosen splits of the odd numbers of at most 9 bits
-unfoldable pub agreed-splits : List ℕ
-agreed-splits = ";
+unfoldable pub agreed_splits : List ℕ
+agreed_splits = ";
 
 fn field(name: &str, rows: Vec<String>) -> String {
     format!("      {name} =\n          {}\n          ∷ [];\n", rows.join("\n          ∷ "))
@@ -140,7 +138,7 @@ fn plan_rooms() -> Vec<String> {
 fn plan_rooms_row(c: u64, work: usize, recipe: usize) -> String {
     let (mut work_room, mut recipe_room) = (vec![BEFORE; work], vec![BEFORE; recipe]);
     let _ = plan(c, &mut work_room, &mut recipe_room);
-    let rooms = format!("work-room = {}; recipe-room = {}", naturals(&work_room), naturals(&recipe_room));
+    let rooms = format!("work_room = {}; recipe_room = {}", naturals(&work_room), naturals(&recipe_room));
     format!("record {{ c = {c}; work = {work}; recipe = {recipe}; {rooms} }}")
 }
 
@@ -274,7 +272,7 @@ impl Writing<'_> {
         let counts =
             answer.as_ref().map_or([0; 4], |counts| [counts.words, counts.clauses, counts.next as usize, counts.bits]);
         let shown = format!(
-            "words-used = {}; clauses-written = {}; next = {}; y = {}",
+            "words_used = {}; clauses_written = {}; next = {}; y = {}",
             counts[0],
             counts[1],
             counts[2],
@@ -285,7 +283,7 @@ impl Writing<'_> {
 
     fn rooms_row(&self) -> String {
         let (_, bit_room, clause_room) = self.done();
-        let rooms = format!("bit-room = {}; clause-room = {}", integers(&bit_room), integers(&clause_room));
+        let rooms = format!("bit_room = {}; clause_room = {}", integers(&bit_room), integers(&clause_room));
         format!("record {{ {}; {rooms} }}", self.arguments())
     }
 }
@@ -418,13 +416,13 @@ mod tests {
     fn a_row_over_given_literals() {
         let call = Call { c: 6, w: 1, x: vec![-9], first: 12, recipe: recipe_for(3), bits: 3, clauses: 1 };
         let shown = "record { c = 6; w = 1; recipe = 32 ∷ 4 ∷ 0 ∷ 0 ∷ 3 ∷ []; bits = 3; clauses = 1; ";
-        let row = "number = 0; line = 0; value = pos 0; words-used = 0; clauses-written = 0; next = 12; ";
+        let row = "number = 0; line = 0; value = pos 0; words_used = 0; clauses_written = 0; next = 12; ";
         let y = "y = pos 0 ∷ negsuc 8 ∷ negsuc 8 ∷ [] }";
-        let rooms = "bit-room = pos 0 ∷ negsuc 8 ∷ negsuc 8 ∷ []; clause-room = pos 7 ∷ [] }";
+        let rooms = "bit_room = pos 0 ∷ negsuc 8 ∷ negsuc 8 ∷ []; clause_room = pos 7 ∷ [] }";
         let around = "record { x = negsuc 8 ∷ []; first = 12; call = ";
         assert_eq!(given_row(&call), format!("{around}{shown}{row}{y} }}"));
         assert_eq!(given_rooms_row(&call), format!("{around}{shown}{rooms} }}"));
-        let nothing = "words-used = 0; clauses-written = 0; next = 0; y = [] } }";
+        let nothing = "words_used = 0; clauses_written = 0; next = 0; y = [] } }";
         let bad_line = Call { recipe: vec![0x60, 4, 0, 0, 3], ..call };
         assert!(given_row(&bad_line).ends_with(&format!("; number = 7; line = 1; value = negsuc 0; {nothing}")));
         let refused = Call { first: 9, ..bad_line };

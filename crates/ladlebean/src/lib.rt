@@ -1,5 +1,5 @@
-// The archive for C: plan, check, write and one pass over words, over numbers and slices. A slice passes as a pointer and a length; each
-// field of an answer has a pointer to one number, and the refusal's number is the result.
+// The calls that the archive for C exports (crates/ladlebean_c): plan, check, write and one pass over words, over numbers and slices. Each
+// field of an answer is left where a reference says, and the refusal's number is the result.
 
 #![tactic(auto)]
 
@@ -13,16 +13,14 @@ use line::Told;
 use product::Written;
 
 // Whether a recipe is right for c: 0, or the refusal's number, with the bad line and the value that it gives.
-#[unsafe(no_mangle)]
-pub extern "C" fn ladlebean_check(c: u64, recipe: &[u8], line: &mut u64, value: &mut i64) -> u64
+pub fn ladlebean_check(c: u64, recipe: &[u8], line: &mut u64, value: &mut i64) -> u64
     ensures { ToldApart (checked_told (checked c recipe.now)) result line.new value.new }
 {
     tell(recipe::check(c, recipe).told(), line, value)
 }
 
 // Plans a recipe for c: 0, or the refusal's number, with the number of lines.
-#[unsafe(no_mangle)]
-pub extern "C" fn ladlebean_plan(c: u64, work: &mut [u8], recipe: &mut [u8], lines: &mut u64) -> u64
+pub fn ladlebean_plan(c: u64, work: &mut [u8], recipe: &mut [u8], lines: &mut u64) -> u64
     ensures { PlanApart (planned c work.old recipe.old) result work.new recipe.new
         lines.new }
 {
@@ -33,8 +31,7 @@ pub extern "C" fn ladlebean_plan(c: u64, work: &mut [u8], recipe: &mut [u8], lin
 
 // Writes the clauses of a recipe for c at width w, where x is w literals and first the first free number: 0, or the refusal's number,
 // with the words used, the clauses, the next free number, the bits of y, the bad line and the value that it gives.
-#[unsafe(no_mangle)]
-pub extern "C" fn ladlebean_write(
+pub fn ladlebean_write(
     c: u64,
     w: u32,
     x: &[i32],
@@ -58,8 +55,7 @@ pub extern "C" fn ladlebean_write(
 }
 
 // The same for document 01's call, where x is the variables 1 to w.
-#[unsafe(no_mangle)]
-pub extern "C" fn ladlebean_write_plain(
+pub fn ladlebean_write_plain(
     c: u64,
     w: u32,
     recipe: &[u8],
@@ -81,8 +77,7 @@ pub extern "C" fn ladlebean_write_plain(
 }
 
 // One pass over words that believes only the clauses: 0, or the refusal's number; `clauses` is the number of clauses read.
-#[unsafe(no_mangle)]
-pub extern "C" fn ladlebean_propagate(
+pub fn ladlebean_propagate(
     words: &[i32],
     given: &[i32],
     allowance: u64,
