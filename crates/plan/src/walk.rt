@@ -13,7 +13,7 @@ use line::Line;
 // The places of a set's room.
 pub(crate) const SET_ROOM: usize = Line::MOST_LINES;
 
-#[derive(Drop)]
+#[derive(Clone, Copy)]
 pub struct Operands {
     pub left: usize,
     pub right: usize,

@@ -12,7 +12,7 @@ use line::Refusal;
 
 // What a room that holds all values so far says of a clause: all its literals are false; all but one unknown literal, which sets a
 // variable to a value; or neither.
-#[derive(Drop)]
+#[derive(Clone, Copy)]
 pub enum Verdict {
     AllFalse,
     Sets { variable: usize, value: u8 },
@@ -20,20 +20,20 @@ pub enum Verdict {
 }
 
 // The verdict on the first clause of words, and how many words it has with its 0; or no clause that fits the room.
-#[derive(Drop)]
+#[derive(Clone, Copy)]
 pub enum Reading {
     Broken,
     Closed { verdict: Verdict, words: usize },
 }
 
 // What a clause makes of the pass: on behind its words, or no further.
-#[derive(Drop)]
+#[derive(Clone, Copy)]
 pub enum Turn {
     On(usize),
     Stop(Refusal),
 }
 
-#[derive(Drop)]
+#[derive(Clone, Copy)]
 pub enum Propagated {
     Read(u64),
     Refused(Refusal),

@@ -8,7 +8,7 @@ ghost use Rattle.recipe.specs.Check.{line_at, judged, form_judged, product_at, r
 
 use line::{Line, Refusal, Told, Verdict};
 
-#[derive(Drop)]
+#[derive(Clone, Copy)]
 pub enum Checked {
     Accepted,
     Refused(Refusal),

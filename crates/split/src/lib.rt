@@ -3,7 +3,7 @@
 #![tactic(auto)]
 
 // The best split so far and its cost; the split 0 is none.
-#[derive(Drop)]
+#[derive(Clone, Copy)]
 pub struct Best {
     pub split: usize,
     pub cost: usize,

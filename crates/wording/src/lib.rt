@@ -2,13 +2,13 @@
 
 #![tactic(auto)]
 
-#[derive(Drop)]
+#[derive(Clone, Copy)]
 pub enum Request {
     Asked(u32, u32),
     Malformed,
 }
 
-#[derive(Drop)]
+#[derive(Clone, Copy)]
 pub enum Printed {
     Bytes(usize),
     Short,
