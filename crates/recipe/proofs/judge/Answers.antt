@@ -2,6 +2,7 @@
 use mathlib.Core.Path.{ap, ◌∙◌, sym}
 use mathlib.Core.Bool.{Bool, false, not}
 use Prim.Native.Nat.{ℕ, ◌+◌}
+use native.Mathlib.Omega.{arith}
 use lib.IntN.{ℤ}
 use borrow.Author.Tests.{eq-eqb, ne_eqb, lt-ltb, le-ltb}
 use Rattle.line.specs.Order.{refuses}
@@ -38,7 +39,7 @@ returns-then-coefficient-eq0 c =
       le-ltb _ _ c.if-top-gt0.false,
       ne_eqb _ _ c.if-kind-eq0.false,
       le-ltb _ _ c.if-left-i.false,
-      le-ltb _ _ c.if-right-i.false,
+      le-ltb c.args.i c.args.line.right (omega arith),
       eq-eqb _ _ c.if-coefficient-eq0.true,
     )
 
