@@ -7,8 +7,8 @@
 
 ghost use Rattle.std.specs.Prelude.{◌≡◌, ◌<◌, ◌≤◌, ◌^◌, length};
 
-use libc::{STDIN_FILENO, STDOUT_FILENO};
 use product::Written;
+use std::io::{self, Read};
 
 fn clause_room() -> [i32; 16384]
     ensures { 16384 ≡ length result }
@@ -105,18 +105,16 @@ fn by_call(call: u64, times: u64, records: &[u8], bits: &mut [i32], clauses: &mu
     often(times, &x, records, bits, clauses)
 }
 
-fn main() {
-    let mut input = io::large_buffer();
-    let n = io::read_full(STDIN_FILENO, &mut input);
+fn main(rt: HostRuntime) -> io::Result<()> {
+    let mut input = Vec::new(rt.alloc());
+    rt.stdin().read_to_end(&mut input)?;
+    let n = input.len();
     if n < 3 {
-        return;
+        return Ok(());
     }
     let times = wide(input[0]) * 256 + wide(input[1]);
     let mut bits = [0; 32];
     let mut clauses = clause_room();
-    io::print_decimal(
-        STDOUT_FILENO,
-        by_call(wide(input[2]), times, &input[3..n], &mut bits, &mut clauses),
-    );
-    io::write_all(STDOUT_FILENO, b"\n");
+    let total = by_call(wide(input[2]), times, &input[3..n], &mut bits, &mut clauses);
+    println!(rt; "{total}")
 }
