@@ -12,7 +12,7 @@ ghost use Rattle.compare_writes.specs.Rooms.{Rooms};
 use cnf::named;
 use line::{Told, magnitude};
 use product::Written;
-use std::io::{self, BufReader, BufWriter, ErrorKind, Read, Write};
+use std::io::{self, BufReader, BufWriter, Read, Write};
 
 fn clause_room() -> [i32; 65535]
     ensures { 65535 ≡ length result }
@@ -136,16 +136,20 @@ fn literals(bytes: &[u8], x: &mut [i32])
     }
 }
 
-// Whether the input had that much.
-fn read<R: Read>(input: &mut R, bytes: &mut [u8]) -> io::Result<bool> {
-    match input.read_exact(bytes) {
-        Ok(()) => Ok(true),
-        Err(e) if e.kind() == ErrorKind::UnexpectedEof => Ok(false),
-        Err(e) => Err(e),
+// Puts what the input has into the room, from the front on, until the room is full or the input ends; how many bytes that were.
+fn read_full<R: Read>(input: &mut R, bytes: &mut [u8]) -> io::Result<usize> {
+    let mut done = 0;
+    while done < bytes.len() {
+        let n = input.read(&mut bytes[done..])?;
+        if n == 0 {
+            break;
+        }
+        done += n;
     }
+    Ok(done)
 }
 
-// Reads the literals and the recipe, and answers; whether all of them were there.
+// Reads the literals and the recipe, and answers.
 fn answer<R: Read, W: Write>(
     input: &mut R,
     out: &mut W,
@@ -158,25 +162,20 @@ fn answer<R: Read, W: Write>(
     recipe: &mut [u8],
     bits: &mut [i32],
     clauses: &mut [i32],
-) -> io::Result<bool>
+) -> io::Result<()>
     requires { (length bytes.old ≡ 4 * length x.old) × (length x.old ≤ 255) }
 {
-    if !read(input, bytes)? {
-        return Ok(false);
-    }
+    read_full(input, bytes)?;
     literals(bytes, x);
-    if !read(input, recipe)? {
-        return Ok(false);
-    }
+    read_full(input, recipe)?;
     fill(bits);
     fill(clauses);
     let done = written(call, c, w, x, first, recipe, bits, clauses);
     let h = summed(0, bits);
-    show(out, done, summed(h, clauses))?;
-    Ok(true)
+    show(out, done, summed(h, clauses))
 }
 
-// Answers the record that begins with fifteen bytes, if all of it is there.
+// Answers the record that begins with fifteen bytes.
 fn record<R: Read, W: Write>(
     input: &mut R,
     out: &mut W,
@@ -186,7 +185,7 @@ fn record<R: Read, W: Write>(
     recipe: &mut [u8],
     bits: &mut [i32],
     clauses: &mut [i32],
-) -> io::Result<bool>
+) -> io::Result<()>
     requires in_bounds { 15 ≤ length head.now }
     requires rooms { Rooms (length bytes.old) (length x.old) (length recipe.old) (length bits.old) (length clauses.old) }
 {
@@ -225,12 +224,11 @@ fn step<R: Read, W: Write>(
     ensures { IfOk result (λ n. n < left) }
 {
     let mut head = [0u8; 15];
-    if !read(input, &mut head)? {
+    let got = read_full(input, &mut head)?;
+    if got < 15 {
         return Ok(0);
     }
-    if !record(input, out, &head, bytes, x, recipe, bits, clauses)? {
-        return Ok(0);
-    }
+    record(input, out, &head, bytes, x, recipe, bits, clauses)?;
     Ok(left - 1)
 }
 

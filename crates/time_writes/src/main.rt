@@ -5,7 +5,7 @@
 
 #![tactic(auto)]
 
-ghost use Rattle.std.specs.Prelude.{◌≡◌, ◌<◌, ◌≤◌, ◌^◌, length};
+ghost use Rattle.std.specs.Prelude.{◌≡◌, ◌<◌, ◌≤◌, ◌^◌, length, IfOk};
 
 use product::Written;
 use std::io::{self, Read};
@@ -14,6 +14,12 @@ fn clause_room() -> [i32; 16384]
     ensures { 16384 ≡ length result }
 {
     [0; 16384]
+}
+
+fn input_room() -> [u8; 65536]
+    ensures { 65536 ≡ length result }
+{
+    [0; 65536]
 }
 
 fn wide(b: u8) -> u64
@@ -105,10 +111,24 @@ fn by_call(call: u64, times: u64, records: &[u8], bits: &mut [i32], clauses: &mu
     often(times, &x, records, bits, clauses)
 }
 
+// Puts what the input has into the room, from the front on, until the room is full or the input ends; how many bytes that were.
+fn read_full<R: Read>(input: &mut R, bytes: &mut [u8]) -> io::Result<usize>
+    ensures { IfOk result (λ n. n ≤ length bytes.new) }
+{
+    let mut done = 0;
+    while done < bytes.len() {
+        let n = input.read(&mut bytes[done..])?;
+        if n == 0 {
+            break;
+        }
+        done += n;
+    }
+    Ok(done)
+}
+
 fn main(rt: HostRuntime) -> io::Result<()> {
-    let mut input = Vec::new(rt.alloc());
-    rt.stdin().read_to_end(&mut input)?;
-    let n = input.len();
+    let mut input = input_room();
+    let n = read_full(&mut rt.stdin(), &mut input)?;
     if n < 3 {
         return Ok(());
     }
