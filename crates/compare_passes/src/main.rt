@@ -6,10 +6,10 @@
 
 #![tactic(auto)]
 
-ghost use Rattle.std.specs.Prelude.{◌≡◌, ◌<◌, ◌≤◌, ◌^◌, length};
+ghost use Rattle.std.specs.Prelude.{◌≡◌, ◌<◌, ◌≤◌, ◌^◌, length, IfOk};
 
-use libc::{STDIN_FILENO, STDOUT_FILENO};
 use propagate::Propagated;
+use std::io::{self, BufReader, BufWriter, ErrorKind, Read, Write};
 
 #[derive(Drop)]
 struct Head {
@@ -51,10 +51,8 @@ fn wide(b: u8) -> u64
 // The number that bytes are, most significant first, modulo 2^64.
 fn number(bytes: &[u8]) -> u64 {
     let mut n: u64 = 0;
-    let mut i = 0;
-    while i < bytes.len() {
-        n = n % 72057594037927936 * 256 + wide(bytes[i]);
-        i = i + 1;
+    for b in bytes {
+        n = n % 72057594037927936 * 256 + wide(*b);
     }
     n
 }
@@ -77,14 +75,12 @@ fn at_most(n: u64, length: usize) -> usize
 // The words that stand in the bytes, four for each.
 fn decode(bytes: &[u8], room: &mut [i32]) {
     let mut at = 0;
-    let mut i = 0;
-    while i < room.len() {
+    for i in 0..room.len() {
         if bytes.len() - at < 4 {
             return;
         }
         room[i] = signed(number(&bytes[at..at + 4]) % 4294967296);
         at = at + 4;
-        i = i + 1;
     }
 }
 
@@ -103,51 +99,46 @@ fn head_of(bytes: &[u8]) -> Head
 // ---- reading
 
 // Whether the input had that much.
-fn read(bytes: &mut [u8]) -> bool {
-    io::read_full(STDIN_FILENO, bytes) == bytes.len()
+fn read<R: Read>(input: &mut R, bytes: &mut [u8]) -> io::Result<bool> {
+    match input.read_exact(bytes) {
+        Ok(()) => Ok(true),
+        Err(e) if e.kind() == ErrorKind::UnexpectedEof => Ok(false),
+        Err(e) => Err(e),
+    }
 }
 
 // Words through a room for their bytes.
-fn read_through(bytes: &mut [u8], room: &mut [i32]) -> bool {
-    let all = read(bytes);
+fn read_through<R: Read>(input: &mut R, bytes: &mut [u8], room: &mut [i32]) -> io::Result<bool> {
+    let all = read(input, bytes)?;
     decode(bytes, room);
-    all
+    Ok(all)
 }
 
-fn read_words(bytes: &mut [u8], room: &mut [i32]) -> bool {
+fn read_words<R: Read>(input: &mut R, bytes: &mut [u8], room: &mut [i32]) -> io::Result<bool> {
     let n = at_most(room.len() as u64 % 65536 * 4, bytes.len());
-    read_through(&mut bytes[..n], room)
+    read_through(input, &mut bytes[..n], room)
 }
 
 // ---- answering
 
 fn summed(room: &[u8]) -> u64 {
     let mut sum: u64 = 0;
-    let mut i = 0;
-    while i < room.len() {
-        sum = (sum % 4294967296 * 31 + wide(room[i])) % 4294967296;
-        i = i + 1;
+    for b in room {
+        sum = (sum % 4294967296 * 31 + wide(*b)) % 4294967296;
     }
     sum
 }
 
-fn print_line(refused: u64, clauses: u64, sum: u64) {
-    io::print_decimal(STDOUT_FILENO, refused);
-    io::write_all(STDOUT_FILENO, b" ");
-    io::print_decimal(STDOUT_FILENO, clauses);
-    io::write_all(STDOUT_FILENO, b" ");
-    io::print_decimal(STDOUT_FILENO, sum);
-    io::write_all(STDOUT_FILENO, b"\n");
+fn print_line<W: Write>(out: &mut W, refused: u64, clauses: u64, sum: u64) -> io::Result<()> {
+    writeln!(out, "{refused} {clauses} {sum}")
 }
 
 fn copy(came: &[u8], values: &mut [u8]) {
-    let mut i = 0;
-    while i < values.len() {
+    for i in 0..values.len() {
         if came.len() <= i {
             return;
         }
         values[i] = came[i];
-        i = i + 1;
     }
 }
 
@@ -178,14 +169,24 @@ fn passes(
 }
 
 // So many passes more, and the answer of one.
-fn answer(more: u64, words: &[i32], given: &[i32], allowance: u64, came: &[u8], values: &mut [u8]) {
+fn answer<W: Write>(
+    out: &mut W,
+    more: u64,
+    words: &[i32],
+    given: &[i32],
+    allowance: u64,
+    came: &[u8],
+    values: &mut [u8],
+) -> io::Result<()> {
     passes(more, words, given, allowance, came, values);
     let done = once(words, given, allowance, came, values);
-    print_line(done.number(), done.clauses(), summed(values));
+    print_line(out, done.number(), done.clauses(), summed(values))
 }
 
 // Reads the words, the literals and the room, and answers; whether all of them were there.
-fn body(
+fn body<R: Read, W: Write>(
+    input: &mut R,
+    out: &mut W,
     more: u64,
     allowance: u64,
     bytes: &mut [u8],
@@ -193,33 +194,37 @@ fn body(
     given: &mut [i32],
     came: &mut [u8],
     values: &mut [u8],
-) -> bool {
-    if !read_words(bytes, words) {
-        return false;
+) -> io::Result<bool> {
+    if !read_words(input, bytes, words)? {
+        return Ok(false);
     }
-    if !read_words(bytes, given) {
-        return false;
+    if !read_words(input, bytes, given)? {
+        return Ok(false);
     }
-    if !read(came) {
-        return false;
+    if !read(input, came)? {
+        return Ok(false);
     }
-    answer(more, words, given, allowance, came, values);
-    true
+    answer(out, more, words, given, allowance, came, values)?;
+    Ok(true)
 }
 
-fn record(
+fn record<R: Read, W: Write>(
+    input: &mut R,
+    out: &mut W,
     head: Head,
     bytes: &mut [u8],
     words: &mut [i32],
     given: &mut [i32],
     came: &mut [u8],
     values: &mut [u8],
-) -> bool {
+) -> io::Result<bool> {
     let w = at_most(head.words, words.len());
     let g = at_most(head.given, given.len());
     let v = at_most(head.room, came.len());
     let u = at_most(head.room, values.len());
     body(
+        input,
+        out,
         head.more,
         head.allowance,
         bytes,
@@ -231,40 +236,63 @@ fn record(
 }
 
 // One record; one less is left, or none where the input ends.
-fn step(
+fn step<R: Read, W: Write>(
+    input: &mut R,
+    out: &mut W,
     left: u64,
     bytes: &mut [u8],
     words: &mut [i32],
     given: &mut [i32],
     came: &mut [u8],
     values: &mut [u8],
-) -> u64
+) -> io::Result<u64>
     requires { 0 < left }
-    ensures { result < left }
+    ensures { IfOk result (λ n. n < left) }
 {
-    let mut head = [0u8; 14];
-    if io::read_full(STDIN_FILENO, &mut head) < 14 {
-        return 0;
+    let mut bytes_of_head = [0u8; 14];
+    if !read(input, &mut bytes_of_head)? {
+        return Ok(0);
     }
-    if !record(head_of(&head), bytes, words, given, came, values) {
-        return 0;
+    let head = head_of(&bytes_of_head);
+    if !record(input, out, head, bytes, words, given, came, values)? {
+        return Ok(0);
     }
-    left - 1
+    Ok(left - 1)
 }
 
 // As many records as a 64-bit number counts.
-fn run(bytes: &mut [u8], words: &mut [i32], given: &mut [i32], came: &mut [u8], values: &mut [u8]) {
+fn run<R: Read, W: Write>(
+    input: &mut R,
+    out: &mut W,
+    bytes: &mut [u8],
+    words: &mut [i32],
+    given: &mut [i32],
+    came: &mut [u8],
+    values: &mut [u8],
+) -> io::Result<()> {
     let mut left: u64 = 18446744073709551615;
     while 0 < left {
-        left = step(left, bytes, words, given, came, values);
+        left = step(input, out, left, bytes, words, given, came, values)?;
     }
+    Ok(())
 }
 
-fn main() {
+fn main(rt: HostRuntime) -> io::Result<()> {
+    let mut input = BufReader::new(rt.alloc(), rt.stdin())?;
+    let mut out = BufWriter::new(rt.alloc(), rt.stdout())?;
     let mut bytes = byte_room();
     let mut words = word_room();
     let mut given = [0; 255];
     let mut came = value_room();
     let mut values = value_room();
-    run(&mut bytes, &mut words, &mut given, &mut came, &mut values);
+    run(
+        &mut input,
+        &mut out,
+        &mut bytes,
+        &mut words,
+        &mut given,
+        &mut came,
+        &mut values,
+    )?;
+    out.flush()
 }

@@ -6,13 +6,13 @@
 
 #![tactic(auto)]
 
-ghost use Rattle.std.specs.Prelude.{◌≡◌, ◌+◌, ◌*◌, ◌<◌, ◌≤◌, ◌^◌, length};
+ghost use Rattle.std.specs.Prelude.{◌≡◌, ◌+◌, ◌*◌, ◌<◌, ◌≤◌, ◌^◌, length, IfOk};
 ghost use Rattle.compare_writes.specs.Rooms.{Rooms};
 
 use cnf::named;
-use libc::{STDIN_FILENO, STDOUT_FILENO};
 use line::{Told, magnitude};
 use product::Written;
+use std::io::{self, BufReader, BufWriter, Read, Write};
 
 fn clause_room() -> [i32; 65535]
     ensures { 65535 ≡ length result }
@@ -22,10 +22,8 @@ fn clause_room() -> [i32; 65535]
 
 // A room that comes with a 7 in each entry shows which entries were touched.
 fn fill(room: &mut [i32]) {
-    let mut i = 0;
-    while i < room.len() {
-        room[i] = 7;
-        i = i + 1;
+    for entry in room.iter_mut() {
+        *entry = 7;
     }
 }
 
@@ -42,47 +40,42 @@ fn summed(h: u64, room: &[i32]) -> u64
     ensures { result < 2 ^ 32 }
 {
     let mut sum = h;
-    let mut i = 0;
-    while i < room.len() {
-        sum = (sum * 31 + unsigned(room[i])) % 4294967296;
-        i = i + 1;
+    for z in room {
+        sum = (sum * 31 + unsigned(*z)) % 4294967296;
     }
     sum
 }
 
 // A number and a blank.
-fn print_number(n: u64) {
-    io::print_decimal(STDOUT_FILENO, n);
-    io::write_all(STDOUT_FILENO, b" ");
+fn print_number<W: Write>(out: &mut W, n: u64) -> io::Result<()> {
+    write!(out, "{n} ")
 }
 
-fn print_signed(z: i64) {
+fn print_signed<W: Write>(out: &mut W, z: i64) -> io::Result<()> {
     if z < 0 {
-        io::write_all(STDOUT_FILENO, b"-");
+        out.write_all(b"-")?;
     }
-    print_number(magnitude(z));
+    print_number(out, magnitude(z))
 }
 
 // Success tells three zeros, which go out at once: most calls succeed.
-fn print_told(told: Told) {
+fn print_told<W: Write>(out: &mut W, told: Told) -> io::Result<()> {
     if told.number == 0 {
-        io::write_all(STDOUT_FILENO, b"0 0 0 ");
-        return;
+        return out.write_all(b"0 0 0 ");
     }
-    print_number(told.number);
-    print_number(told.line as u64);
-    print_signed(told.value);
+    print_number(out, told.number)?;
+    print_number(out, told.line as u64)?;
+    print_signed(out, told.value)
 }
 
-fn show(done: Written, sum: u64) {
-    print_told(done.told());
+fn show<W: Write>(out: &mut W, done: Written, sum: u64) -> io::Result<()> {
+    print_told(out, done.told())?;
     let n = done.counts();
-    print_number(n.words as u64);
-    print_number(n.clauses as u64);
-    print_number(n.next as u64);
-    print_number(n.bits as u64);
-    io::print_decimal(STDOUT_FILENO, sum);
-    io::write_all(STDOUT_FILENO, b"\n");
+    print_number(out, n.words as u64)?;
+    print_number(out, n.clauses as u64)?;
+    print_number(out, n.next as u64)?;
+    print_number(out, n.bits as u64)?;
+    writeln!(out, "{sum}")
 }
 
 // Document 01's call, or that over given literals.
@@ -138,15 +131,28 @@ fn signed(m: u64) -> i32
 fn literals(bytes: &[u8], x: &mut [i32])
     requires { (length bytes.now ≡ 4 * length x.old) × (length x.old ≤ 255) }
 {
-    let mut j = 0;
-    while j < x.len() {
+    for j in 0..x.len() {
         x[j] = signed(four_bytes(bytes, 4 * j));
-        j = j + 1;
     }
 }
 
+// Puts what the input has into the room, from the front on, until the room is full or the input ends; how many bytes that were.
+fn read_full<R: Read>(input: &mut R, bytes: &mut [u8]) -> io::Result<usize> {
+    let mut done = 0;
+    while done < bytes.len() {
+        let n = input.read(&mut bytes[done..])?;
+        if n == 0 {
+            break;
+        }
+        done += n;
+    }
+    Ok(done)
+}
+
 // Reads the literals and the recipe, and answers.
-fn answer(
+fn answer<R: Read, W: Write>(
+    input: &mut R,
+    out: &mut W,
     call: u64,
     c: u64,
     w: u32,
@@ -156,28 +162,30 @@ fn answer(
     recipe: &mut [u8],
     bits: &mut [i32],
     clauses: &mut [i32],
-)
+) -> io::Result<()>
     requires { (length bytes.old ≡ 4 * length x.old) × (length x.old ≤ 255) }
 {
-    io::read_full(STDIN_FILENO, bytes);
+    read_full(input, bytes)?;
     literals(bytes, x);
-    io::read_full(STDIN_FILENO, recipe);
+    read_full(input, recipe)?;
     fill(bits);
     fill(clauses);
     let done = written(call, c, w, x, first, recipe, bits, clauses);
     let h = summed(0, bits);
-    show(done, summed(h, clauses));
+    show(out, done, summed(h, clauses))
 }
 
 // Answers the record that begins with fifteen bytes.
-fn record(
+fn record<R: Read, W: Write>(
+    input: &mut R,
+    out: &mut W,
     head: &[u8],
     bytes: &mut [u8],
     x: &mut [i32],
     recipe: &mut [u8],
     bits: &mut [i32],
     clauses: &mut [i32],
-)
+) -> io::Result<()>
     requires in_bounds { 15 ≤ length head.now }
     requires rooms { Rooms (length bytes.old) (length x.old) (length recipe.old) (length bits.old) (length clauses.old) }
 {
@@ -186,6 +194,8 @@ fn record(
     let b = byte(head, 12) as usize;
     let k = two_bytes(head, 13) as usize;
     answer(
+        input,
+        out,
         byte(head, 0),
         four_bytes(head, 1),
         byte(head, 5) as u32,
@@ -195,46 +205,68 @@ fn record(
         &mut recipe[..r],
         &mut bits[..b],
         &mut clauses[..k],
-    );
+    )
 }
 
 // One record; one less is left, or none where the input ends.
-fn step(
+fn step<R: Read, W: Write>(
+    input: &mut R,
+    out: &mut W,
     left: u64,
     bytes: &mut [u8],
     x: &mut [i32],
     recipe: &mut [u8],
     bits: &mut [i32],
     clauses: &mut [i32],
-) -> u64
+) -> io::Result<u64>
     requires left_nonzero { 0 < left }
     requires rooms { Rooms (length bytes.old) (length x.old) (length recipe.old) (length bits.old) (length clauses.old) }
-    ensures { result < left }
+    ensures { IfOk result (λ n. n < left) }
 {
     let mut head = [0u8; 15];
-    let got = io::read_full(STDIN_FILENO, &mut head);
+    let got = read_full(input, &mut head)?;
     if got < 15 {
-        return 0;
+        return Ok(0);
     }
-    record(&head, bytes, x, recipe, bits, clauses);
-    left - 1
+    record(input, out, &head, bytes, x, recipe, bits, clauses)?;
+    Ok(left - 1)
 }
 
 // As many records as a 64-bit number counts.
-fn run(bytes: &mut [u8], x: &mut [i32], recipe: &mut [u8], bits: &mut [i32], clauses: &mut [i32])
+fn run<R: Read, W: Write>(
+    input: &mut R,
+    out: &mut W,
+    bytes: &mut [u8],
+    x: &mut [i32],
+    recipe: &mut [u8],
+    bits: &mut [i32],
+    clauses: &mut [i32],
+) -> io::Result<()>
     requires { Rooms (length bytes.old) (length x.old) (length recipe.old) (length bits.old) (length clauses.old) }
 {
     let mut left: u64 = 18446744073709551615;
     while 0 < left {
-        left = step(left, bytes, x, recipe, bits, clauses);
+        left = step(input, out, left, bytes, x, recipe, bits, clauses)?;
     }
+    Ok(())
 }
 
-fn main() {
+fn main(rt: HostRuntime) -> io::Result<()> {
+    let mut input = BufReader::new(rt.alloc(), rt.stdin())?;
+    let mut out = BufWriter::new(rt.alloc(), rt.stdout())?;
     let mut bytes = [0; 1020];
     let mut x = [0; 255];
     let mut recipe = [0; 255];
     let mut bits = [0; 255];
     let mut clauses = clause_room();
-    run(&mut bytes, &mut x, &mut recipe, &mut bits, &mut clauses);
+    run(
+        &mut input,
+        &mut out,
+        &mut bytes,
+        &mut x,
+        &mut recipe,
+        &mut bits,
+        &mut clauses,
+    )?;
+    out.flush()
 }

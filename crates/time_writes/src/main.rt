@@ -5,15 +5,21 @@
 
 #![tactic(auto)]
 
-ghost use Rattle.std.specs.Prelude.{◌≡◌, ◌<◌, ◌≤◌, ◌^◌, length};
+ghost use Rattle.std.specs.Prelude.{◌≡◌, ◌<◌, ◌≤◌, ◌^◌, length, IfOk};
 
-use libc::{STDIN_FILENO, STDOUT_FILENO};
 use product::Written;
+use std::io::{self, Read};
 
 fn clause_room() -> [i32; 16384]
     ensures { 16384 ≡ length result }
 {
     [0; 16384]
+}
+
+fn input_room() -> [u8; 65536]
+    ensures { 65536 ≡ length result }
+{
+    [0; 65536]
 }
 
 fn wide(b: u8) -> u64
@@ -105,18 +111,30 @@ fn by_call(call: u64, times: u64, records: &[u8], bits: &mut [i32], clauses: &mu
     often(times, &x, records, bits, clauses)
 }
 
-fn main() {
-    let mut input = io::large_buffer();
-    let n = io::read_full(STDIN_FILENO, &mut input);
+// Puts what the input has into the room, from the front on, until the room is full or the input ends; how many bytes that were.
+fn read_full<R: Read>(input: &mut R, bytes: &mut [u8]) -> io::Result<usize>
+    ensures { IfOk result (λ n. n ≤ length bytes.new) }
+{
+    let mut done = 0;
+    while done < bytes.len() {
+        let n = input.read(&mut bytes[done..])?;
+        if n == 0 {
+            break;
+        }
+        done += n;
+    }
+    Ok(done)
+}
+
+fn main(rt: HostRuntime) -> io::Result<()> {
+    let mut input = input_room();
+    let n = read_full(&mut rt.stdin(), &mut input)?;
     if n < 3 {
-        return;
+        return Ok(());
     }
     let times = wide(input[0]) * 256 + wide(input[1]);
     let mut bits = [0; 32];
     let mut clauses = clause_room();
-    io::print_decimal(
-        STDOUT_FILENO,
-        by_call(wide(input[2]), times, &input[3..n], &mut bits, &mut clauses),
-    );
-    io::write_all(STDOUT_FILENO, b"\n");
+    let total = by_call(wide(input[2]), times, &input[3..n], &mut bits, &mut clauses);
+    println!(rt; "{total}")
 }
