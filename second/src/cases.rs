@@ -30,7 +30,7 @@ pub fn table() -> String {
 }
 
 const HEAD: &str = "-- The second engine's answers. Printed by `second cases`; do not edit.
-use Rattle.std.specs.Prelude.{ℕ, List, [], ◌∷◌, ℤ, pos, negsuc}
+use Rattle.std.specs.Prelude.{ℕ, List, [], ◌∷◌, pos, negsuc}
 use Rattle.cases.specs.Table.{Table}
 
 -- the chosen splits of the odd numbers of at most 9 bits
