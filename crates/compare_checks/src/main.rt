@@ -3,11 +3,13 @@
 
 #![tactic(auto)]
 
-ghost use Rattle.std.specs.Prelude.{◌≡◌, ◌≤◌, ◌<◌, ◌^◌, length};
-ghost use Rattle.compare_checks.specs.Record.{constant_of, told_of};
+ghost use Rattle.std.specs.Prelude.{◌≡◌, ◌≤◌, ◌<◌, ◌^◌, length, IfOk, OnOk};
+ghost use Rattle.std.specs.Io.KnownBytes.{Appends};
+ghost use Rattle.compare_checks.specs.Record.{constant_of, told_of, line_text};
 
-use libc::{STDIN_FILENO, STDOUT_FILENO};
-use line::{Told, magnitude};
+use line::Told;
+use std::io;
+use std::io::{BufReader, BufWriter, ErrorKind, Read, Write};
 
 // More than any input has: the loop has to end.
 const MOST_RECORDS: u64 = 1_000_000_000;
@@ -35,52 +37,56 @@ fn answer(bytes: &[u8]) -> Told
     recipe::check(c, &bytes[5..]).told()
 }
 
-fn print_signed(z: i64) {
-    if z < 0 {
-        io::write_all(STDOUT_FILENO, b"-");
-    }
-    io::print_decimal(STDOUT_FILENO, magnitude(z));
+// The numbers go into the writer's buffer, so that a line costs no call of the system.
+fn print_line<W: Write>(out: &mut W, told: Told) -> io::Result<()>
+    ensures { OnOk result (Appends (W.contents out.old) (W.contents out.new) (line_text told)) }
+{
+    let Told {
+        number,
+        line,
+        value,
+    } = told;
+    writeln!(out, "{number} {line} {value}")
 }
 
-// Success tells three zeros, which go out by one call of the system in place of six.
-fn print_line(told: Told) {
-    if told.number == 0 {
-        io::write_all(STDOUT_FILENO, b"0 0 0\n");
-        return;
+// Fills a room from its front; false where the input ends before.
+fn filled<R: Read>(input: &mut R, room: &mut [u8]) -> io::Result<bool> {
+    match input.read_exact(room) {
+        Ok(()) => Ok(true),
+        Err(e) => {
+            if e.kind() == ErrorKind::UnexpectedEof {
+                return Ok(false);
+            }
+            Err(e)
+        }
     }
-    io::print_decimal(STDOUT_FILENO, told.number);
-    io::write_all(STDOUT_FILENO, b" ");
-    io::print_decimal(STDOUT_FILENO, told.line as u64);
-    io::write_all(STDOUT_FILENO, b" ");
-    print_signed(told.value);
-    io::write_all(STDOUT_FILENO, b"\n");
 }
 
 // The next record, at the front of the room, and its length; 0 where there is none.
-fn read_record(room: &mut [u8]) -> usize
+fn read_record<R: Read>(input: &mut R, room: &mut [u8]) -> io::Result<usize>
     requires { length room.old ≡ 260 }
-    ensures { result ≤ 260 }
+    ensures { IfOk result (λ n. n ≤ 260) }
 {
-    let head = io::read_full(STDIN_FILENO, &mut room[..5]);
-    if head < 5 {
-        return 0;
+    if !filled(input, &mut room[..5])? {
+        return Ok(0);
     }
-    let n = wide(room[4]) as usize;
-    let e = 5 + n;
-    let body = io::read_full(STDIN_FILENO, &mut room[5..e]);
-    if body < n {
-        return 0;
+    let e = 5 + wide(room[4]) as usize;
+    if !filled(input, &mut room[5..e])? {
+        return Ok(0);
     }
-    e
+    Ok(e)
 }
 
-fn main() {
+fn main(rt: HostRuntime) -> io::Result<()> {
+    let mut input = BufReader::new(rt.alloc(), rt.stdin())?;
+    let mut out = BufWriter::new(rt.alloc(), rt.stdout())?;
     let mut room = [0u8; 260];
     for _ in 0..MOST_RECORDS {
-        let n = read_record(&mut room);
+        let n = read_record(&mut input, &mut room)?;
         if n < 5 {
             break;
         }
-        print_line(answer(&room[..n]));
+        print_line(&mut out, answer(&room[..n]))?;
     }
+    out.flush()
 }

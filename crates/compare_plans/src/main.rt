@@ -6,8 +6,9 @@
 
 ghost use Rattle.std.specs.Prelude.{◌≡◌, ◌<◌, length};
 
-use libc::{STDIN_FILENO, STDOUT_FILENO};
 use plan::Planned;
+use std::io;
+use std::io::{BufReader, BufWriter, ErrorKind, Read, Write};
 
 // More than any input has: the loop has to end.
 const MOST_RECORDS: u64 = 1_000_000_000;
@@ -25,20 +26,16 @@ fn wide(b: u8) -> u64
 }
 
 fn fill(room: &mut [u8]) {
-    let mut i = 0;
-    while i < room.len() {
-        room[i] = 7;
-        i += 1;
+    for b in room.iter_mut() {
+        *b = 7;
     }
 }
 
 // The checksum h, with the bytes of a room behind it.
 fn checksum(h: u64, room: &[u8]) -> u64 {
     let mut sum = h % 4294967296;
-    let mut i = 0;
-    while i < room.len() {
-        sum = (sum * 31 + wide(room[i])) % 4294967296;
-        i += 1;
+    for b in room {
+        sum = (sum * 31 + wide(*b)) % 4294967296;
     }
     sum
 }
@@ -66,26 +63,48 @@ fn answer(record: &[u8; 8], work: &mut [u8], recipe: &mut [u8]) -> [u8; 6] {
 }
 
 // Answers a record, and shows the work room if that is asked.
-fn serve(record: &[u8; 8], work: &mut [u8], recipe: &mut [u8])
+fn serve<W: Write>(
+    out: &mut W,
+    record: &[u8; 8],
+    work: &mut [u8],
+    recipe: &mut [u8],
+) -> io::Result<()>
     requires { (length work.old ≡ 65536) × (length recipe.old ≡ 256) }
 {
     let n = (wide(record[4]) * 256 + wide(record[5])) as usize;
     let m = wide(record[6]) as usize;
     let bytes = answer(record, &mut work[..n], &mut recipe[..m]);
-    io::write_all(STDOUT_FILENO, &bytes);
+    out.write_all(&bytes)?;
     if record[7] == 1 {
-        io::write_all(STDOUT_FILENO, &work[..n]);
+        out.write_all(&work[..n])?;
+    }
+    Ok(())
+}
+
+// Fills a room from its front; false where the input ends before.
+fn filled<R: Read>(input: &mut R, room: &mut [u8]) -> io::Result<bool> {
+    match input.read_exact(room) {
+        Ok(()) => Ok(true),
+        Err(e) => {
+            if e.kind() == ErrorKind::UnexpectedEof {
+                return Ok(false);
+            }
+            Err(e)
+        }
     }
 }
 
-fn main() {
+fn main(rt: HostRuntime) -> io::Result<()> {
+    let mut input = BufReader::new(rt.alloc(), rt.stdin())?;
+    let mut out = BufWriter::new(rt.alloc(), rt.stdout())?;
     let mut record = [0u8; 8];
     let mut work = work_room();
     let mut recipe = [0u8; 256];
     for _ in 0..MOST_RECORDS {
-        if io::read_full(STDIN_FILENO, &mut record) < 8 {
+        if !filled(&mut input, &mut record)? {
             break;
         }
-        serve(&record, &mut work, &mut recipe);
+        serve(&mut out, &record, &mut work, &mut recipe)?;
     }
+    out.flush()
 }

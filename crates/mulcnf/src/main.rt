@@ -5,7 +5,8 @@
 ghost use Rattle.wording.specs.Print.{file_room};
 ghost use Rattle.std.specs.Prelude.{◌≡◌, length};
 
-use libc::{STDIN_FILENO, STDOUT_FILENO};
+use std::io;
+use std::io::{Read, Write};
 use wording::Printed;
 
 fn room() -> [u8; dimacs::ROOM]
@@ -14,14 +15,14 @@ fn room() -> [u8; dimacs::ROOM]
     [0; dimacs::ROOM]
 }
 
-fn main() {
+fn main(rt: HostRuntime) -> io::Result<()> {
     // The longest request has nine bytes, so a tenth says that there is too much.
-    let mut input = [0u8; 10];
-    let n = io::read_full(STDIN_FILENO, &mut input);
+    let mut input = Vec::new(rt.alloc());
+    rt.stdin().take(10).read_to_end(&mut input)?;
     let mut out = room();
-    let printed = dimacs::file(&input[..n], &mut out);
+    let printed = dimacs::file(&input, &mut out);
     let Printed::Bytes(k) = printed else {
-        return;
+        return Ok(());
     };
-    io::write_all(STDOUT_FILENO, &out[..k]);
+    rt.stdout().write_all(&out[..k])
 }
