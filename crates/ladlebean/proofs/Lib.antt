@@ -3,3 +3,6 @@ pub mod Once
 pub mod Bench
 pub mod Demands
 pub mod OurWords
+pub mod Calls
+pub mod PlannedLines
+pub mod CallDemands

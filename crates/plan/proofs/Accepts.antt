@@ -167,6 +167,11 @@ module _ (t : ℕ → ℕ) (L : ℕ) (few : L ≤ 20) (d : ℕ) (root : Root t L
   unfolding line_count
   own_short = short
 
+  own_line : (i : ℕ) → i < length (coefficients t d)
+      → line_at own_bytes i ≡ line_for t (coefficients t d) (get_or (coefficients t d) i 0)
+  unfolding recipe_for coefficients
+  own_line = line_there t L few (set_of t d) own_lined own_each own_short
+
   own_claims : (i : ℕ) → i < length (coefficients t d) → coefficient_at own_bytes (suc i) ≡ get_or (coefficients t d) i 0
   unfolding recipe_for coefficients
   own_claims = claims_there t L few (set_of t d) own_lined own_each own_short
@@ -243,7 +248,13 @@ module _ (c : ℕ) (least : 1 ≤ c) (most : c ≤ most_constant) where
   planned_accepted = right_accepted c (lines_bytes (recipe_for split_of d))
       (record { least = least; most = most; makes = makes split_of (odd_bits c) (omega (arith, d_few)) d d_root d_short })
 
-  -- its lines claim the coefficients in order
+  -- its lines are those of the coefficients in order
+  pub planned_line : (i : ℕ) → i < length (coefficients split_of d)
+      → line_at (lines_bytes (recipe_for split_of d)) i
+      ≡ line_for split_of (coefficients split_of d) (get_or (coefficients split_of d) i 0)
+  planned_line = own_line split_of (odd_bits c) (omega (arith, d_few)) d d_root d_short
+
+  -- .. and claim them
   pub planned_claims : (i : ℕ) → i < length (coefficients split_of d)
       → coefficient_at (lines_bytes (recipe_for split_of d)) (suc i) ≡ get_or (coefficients split_of d) i 0
   planned_claims = own_claims split_of (odd_bits c) (omega (arith, d_few)) d d_root d_short

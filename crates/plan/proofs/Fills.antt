@@ -294,7 +294,7 @@ list_is t (suc k) i (x ∷ l) h e = ap₂ (λ (a : ℕ) (b : List ℕ). a ∷ b)
     (e 0 (omega arith) ∙ ap t (omega arith))
     (list_is t k (suc i) l (omega arith) (λ j q. e (suc j) (omega arith) ∙ ap t (omega arith)))
 
-splits_length : (t : ℕ → ℕ) (L : ℕ) → length (splits t L) ≡ 2 ^ (L - 1)
+pub splits_length : (t : ℕ → ℕ) (L : ℕ) → length (splits t L) ≡ 2 ^ (L - 1)
 unfolding splits splits_from
 splits_length t L = from 0 (2 ^ (L - 1))
   where

@@ -11,4 +11,5 @@ pub mod Recipes
 pub mod Bytes
 pub mod Plans
 pub mod Accepts
+pub mod AtExit
 pub mod Cases

@@ -159,7 +159,18 @@ module _ (size : List Clause → ℕ) (most : ℕ) (none : size [] ≡ 0) (appen
         ap (λ (m : ℕ). most * (L + length x) * m) (length_lines recipe 0 n),
       )
 
--- the clause bound of demand 3
+-- the clause bound of demand 3, of each line ..
+pub line_few_clauses : (w L : ℕ) (l : Line) (operands : List (List Bit)) (n : ℕ) → l.coefficient < 2 ^ L
+    → length (line_encoded (columns w) l operands n).clauses ≤ 14 * (L + w)
+unfolding line_encoded
+line_few_clauses w L l operands n h = omega (
+  arith,
+  line_size length 14 refl length-append (λ l r c last n. (column_clauses l r c last n).0) (kind_of l.kind)
+      (columns w l.coefficient) l.shift (get_or operands l.left []) (get_or operands l.right []) n,
+  mul-le-mul_left 14 (columns_le w l.coefficient L h),
+)
+
+-- .. and of all
 pub few_clauses : (c : ℕ) (x : List ℤ) (first : ℕ) (recipe : List ℕ) (L : ℕ)
     → ((i : ℕ) → i < length recipe / 5 → bit_length (line_at recipe i).coefficient ≤ L)
     → length (product_of c x first recipe).clauses ≤ 14 * (L + length x) * (length recipe / 5)

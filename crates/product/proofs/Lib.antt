@@ -24,3 +24,4 @@ pub mod Success
 pub mod Demands
 pub mod Instances
 pub mod Refused
+pub mod ByLine

@@ -5,3 +5,4 @@ pub mod Product
 pub mod Write
 pub mod Renaming
 pub mod Demand
+pub mod ByLine

@@ -10,3 +10,4 @@ pub mod Earlier
 pub mod Bound
 pub mod Lines
 pub mod Form
+pub mod Rules

@@ -23,7 +23,7 @@ by_rule cost table n = elim (ltb n 2) [ true ↦ 0 | false ↦ choose cost (look
 abbrev pub Tested : Cost → List ℕ → Type 0
 Tested cost table = splits_from (by_rule cost table) 0 (length table) ≡ table
 
-splits_at : (t : ℕ → ℕ) (k i j : ℕ) → j < k → get_or (splits_from t i k) j 0 ≡ t (2 * (i + j) + 1)
+pub splits_at : (t : ℕ → ℕ) (k i j : ℕ) → j < k → get_or (splits_from t i k) j 0 ≡ t (2 * (i + j) + 1)
 unfolding splits_from
 splits_at t zero i j h = absurd (omega arith)
 splits_at t (suc k) i zero h = ap t {x = 2 * i + 1} {y = 2 * (i + 0) + 1} (omega arith)

@@ -3,3 +3,4 @@ pub mod Reach
 pub mod Choose
 pub mod Order
 pub mod Form
+pub mod Rules
