@@ -190,6 +190,9 @@ module _ (l r c : ℕ) where
             (rw (bit_literal l p, bit_literal r q, bit_literal c o)) (rw (bit_literal l p, bit_literal r q, bit_literal c o))
             (λ n. refl) (λ n. refl) tt
 
+-- what `inputs_of` sees, pair by pair and fixed input by fixed input
+pub ruleset seen_by_pairs = (first_seen, second_seen, third_seen, left_fixed, right_fixed, carry_fixed, none_fixed)
+
 -- ---- the sum
 
 -- the parity that a gate names by the code of its new variable

@@ -32,7 +32,7 @@ fn pair(a: u32, b: u32, rest: u32) -> Inputs
 }
 
 // A fixed bit counts as a literal of variable 0: two of them are a pair like any other, so no case of none or one unfixed input is left.
-#[tactic(auto, using(crate::proofs::CodeColumns::first_seen, crate::proofs::CodeColumns::second_seen, crate::proofs::CodeColumns::third_seen, crate::proofs::CodeColumns::left_fixed, crate::proofs::CodeColumns::right_fixed, crate::proofs::CodeColumns::carry_fixed, crate::proofs::CodeColumns::none_fixed,))]
+#[tactic(auto, using(crate::proofs::CodeColumns::seen_by_pairs))]
 fn inputs_of(left: u32, right: u32, carry: u32) -> Inputs
     ensures { Sees result (bit_of left) (bit_of right) (bit_of carry) }
 {
