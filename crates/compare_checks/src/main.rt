@@ -3,13 +3,13 @@
 
 #![tactic(auto)]
 
-ghost use Rattle.std.specs.Prelude.{◌≡◌, ◌≤◌, ◌<◌, ◌^◌, length, IfOk, OnOk};
-ghost use Rattle.std.specs.Io.KnownBytes.{Appends};
-ghost use Rattle.compare_checks.specs.Record.{constant_of, told_of, line_text};
+ghost use Rattle.std.specs.Prelude.{◌≡◌, ◌≤◌, ◌<◌, ◌^◌, length, take, IfSome, IfOk, OnOk};
+ghost use Rattle.std.specs.Io.KnownBytes.{Appends, Consumes, IsAtEnd};
+ghost use Rattle.compare_checks.specs.Record.{constant_of, told_of, record_length, line_text, most_records, lines_of};
 
 use line::Told;
 use std::io;
-use std::io::{BufReader, BufWriter, ErrorKind, Read, Write};
+use std::io::{BufReader, BufWriter, Read, Write};
 
 // More than any input has: the loop has to end.
 const MOST_RECORDS: u64 = 1_000_000_000;
@@ -49,44 +49,63 @@ fn print_line<W: Write>(out: &mut W, told: Told) -> io::Result<()>
     writeln!(out, "{number} {line} {value}")
 }
 
-// Fills a room from its front; false where the input ends before.
-fn filled<R: Read>(input: &mut R, room: &mut [u8]) -> io::Result<bool> {
-    match input.read_exact(room) {
-        Ok(()) => Ok(true),
-        Err(e) => {
-            if e.kind() == ErrorKind::UnexpectedEof {
-                return Ok(false);
-            }
-            Err(e)
+// Fills a room from its front, as far as the input goes, and answers how far that is.
+fn read_full<R: Read>(input: &mut R, room: &mut [u8]) -> io::Result<usize>
+    ensures within { IfOk result (λ n. n ≤ length room.new) }
+    ensures bytes { IfOk result (λ n. Consumes (R.remaining input.old) (R.remaining input.new) (take n room.new)) }
+    ensures end { IfOk result (λ n. n < length room.new → IsAtEnd (R.remaining input.new)) }
+{
+    let mut at = 0;
+    while at < room.len() {
+        let n = input.read(&mut room[at..])?;
+        if n == 0 {
+            return Ok(at);
         }
+        at += n;
     }
+    Ok(at)
 }
 
 // The next record, at the front of the room, and its length; 0 where there is none.
 fn read_record<R: Read>(input: &mut R, room: &mut [u8]) -> io::Result<usize>
     requires { length room.old ≡ 260 }
-    ensures { IfOk result (λ n. n ≤ 260) }
+    ensures within { IfOk result (λ n. n ≤ 260) }
+    ensures whole { IfOk result (λ n. 5 ≤ n → (n ≡ record_length (take n room.new))
+        × Consumes (R.remaining input.old) (R.remaining input.new) (take n room.new)) }
+    ensures cut { IfOk result (λ n. n < 5 → IfSome (R.remaining input.old) (λ xs. length xs < record_length xs)) }
 {
-    if !filled(input, &mut room[..5])? {
+    let head = read_full(input, &mut room[..5])?;
+    if head < 5 {
         return Ok(0);
     }
-    let e = 5 + wide(room[4]) as usize;
-    if !filled(input, &mut room[5..e])? {
+    let n = wide(room[4]) as usize;
+    let e = 5 + n;
+    let body = read_full(input, &mut room[5..e])?;
+    if body < n {
         return Ok(0);
     }
     Ok(e)
 }
 
+// Reads records until the input ends, and prints their lines.
+fn serve<R: Read, W: Write>(input: &mut R, out: &mut W) -> io::Result<()>
+    ensures { OnOk result (IfSome (R.remaining input.old)
+        (λ xs. Appends (W.contents out.old) (W.contents out.new) (lines_of most_records xs))) }
+{
+    let mut room = [0u8; 260];
+    for _ in 0..MOST_RECORDS {
+        let n = read_record(input, &mut room)?;
+        if n < 5 {
+            return Ok(());
+        }
+        print_line(out, answer(&room[..n]))?;
+    }
+    Ok(())
+}
+
 fn main(rt: HostRuntime) -> io::Result<()> {
     let mut input = BufReader::new(rt.alloc(), rt.stdin())?;
     let mut out = BufWriter::new(rt.alloc(), rt.stdout())?;
-    let mut room = [0u8; 260];
-    for _ in 0..MOST_RECORDS {
-        let n = read_record(&mut input, &mut room)?;
-        if n < 5 {
-            break;
-        }
-        print_line(&mut out, answer(&room[..n]))?;
-    }
+    serve(&mut input, &mut out)?;
     out.flush()
 }
