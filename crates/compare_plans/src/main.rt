@@ -4,11 +4,13 @@
 
 #![tactic(auto)]
 
-ghost use Rattle.std.specs.Prelude.{◌≡◌, ◌<◌, length};
+ghost use Rattle.std.specs.Prelude.{◌≡◌, ◌≤◌, ◌<◌, length, take, replicate, IfSome, IfOk, OnOk};
+ghost use Rattle.std.specs.Io.KnownBytes.{Appends, Consumes, IsAtEnd};
+ghost use Rattle.compare_plans.specs.Record.{constant_of, planned_in, checksum, six_bytes, told_of, answered, most_records, answers_to};
 
 use plan::Planned;
 use std::io;
-use std::io::{BufReader, BufWriter, ErrorKind, Read, Write};
+use std::io::{BufReader, BufWriter, Read, Write};
 
 // More than any input has: the loop has to end.
 const MOST_RECORDS: u64 = 1_000_000_000;
@@ -25,14 +27,18 @@ fn wide(b: u8) -> u64
     b as u64
 }
 
-fn fill(room: &mut [u8]) {
+fn fill(room: &mut [u8])
+    ensures { room.new ≡ replicate (length room.old) 7 }
+{
     for b in room.iter_mut() {
         *b = 7;
     }
 }
 
 // The checksum h, with the bytes of a room behind it.
-fn checksum(h: u64, room: &[u8]) -> u64 {
+fn checksum(h: u64, room: &[u8]) -> u64
+    ensures { result ≡ checksum h room.now }
+{
     let mut sum = h % 4294967296;
     for b in room {
         sum = (sum * 31 + wide(*b)) % 4294967296;
@@ -41,7 +47,9 @@ fn checksum(h: u64, room: &[u8]) -> u64 {
 }
 
 // Six bytes: the answer and the checksum.
-fn told(answer: Planned, sum: u64) -> [u8; 6] {
+fn told(answer: Planned, sum: u64) -> [u8; 6]
+    ensures { result ≡ six_bytes answer sum }
+{
     [
         (answer.number() % 256) as u8,
         (answer.lines() % 256) as u8,
@@ -53,7 +61,10 @@ fn told(answer: Planned, sum: u64) -> [u8; 6] {
 }
 
 // One call, in the rooms that are lent.
-fn answer(record: &[u8; 8], work: &mut [u8], recipe: &mut [u8]) -> [u8; 6] {
+fn answer(record: &[u8; 8], work: &mut [u8], recipe: &mut [u8]) -> [u8; 6]
+    ensures bytes { result ≡ told_of (planned_in (constant_of «record».now) (length work.old) (length recipe.old)) }
+    ensures room { work.new ≡ (planned_in (constant_of «record».now) (length work.old) (length recipe.old)).work }
+{
     let c = ((wide(record[0]) * 256 + wide(record[1])) * 256 + wide(record[2])) * 256
         + wide(record[3]);
     fill(work);
@@ -70,6 +81,7 @@ fn serve<W: Write>(
     recipe: &mut [u8],
 ) -> io::Result<()>
     requires { (length work.old ≡ 65536) × (length recipe.old ≡ 256) }
+    ensures { OnOk result (Appends (W.contents out.old) (W.contents out.new) (answered «record».now)) }
 {
     let n = (wide(record[4]) * 256 + wide(record[5])) as usize;
     let m = wide(record[6]) as usize;
@@ -81,30 +93,45 @@ fn serve<W: Write>(
     Ok(())
 }
 
-// Fills a room from its front; false where the input ends before.
-fn filled<R: Read>(input: &mut R, room: &mut [u8]) -> io::Result<bool> {
-    match input.read_exact(room) {
-        Ok(()) => Ok(true),
-        Err(e) => {
-            if e.kind() == ErrorKind::UnexpectedEof {
-                return Ok(false);
-            }
-            Err(e)
+// Fills a room from its front, as far as the input goes, and answers how far that is.
+fn read_full<R: Read>(input: &mut R, room: &mut [u8]) -> io::Result<usize>
+    ensures within { IfOk result (λ n. n ≤ length room.new) }
+    ensures bytes { IfOk result (λ n. Consumes (R.remaining input.old) (R.remaining input.new) (take n room.new)) }
+    ensures end { IfOk result (λ n. n < length room.new → IsAtEnd (R.remaining input.new)) }
+{
+    let mut at = 0;
+    while at < room.len() {
+        let n = input.read(&mut room[at..])?;
+        if n == 0 {
+            return Ok(at);
         }
+        at += n;
     }
+    Ok(at)
+}
+
+// Reads records until the input ends, and answers each.
+fn serve_all<R: Read, W: Write>(input: &mut R, out: &mut W, work: &mut [u8]) -> io::Result<()>
+    requires { length work.old ≡ 65536 }
+    ensures { OnOk result (IfSome (R.remaining input.old)
+        (λ xs. Appends (W.contents out.old) (W.contents out.new) (answers_to most_records xs))) }
+{
+    let mut record = [0u8; 8];
+    let mut recipe = [0u8; 256];
+    for _ in 0..MOST_RECORDS {
+        let n = read_full(input, &mut record)?;
+        if n < 8 {
+            return Ok(());
+        }
+        serve(out, &record, work, &mut recipe)?;
+    }
+    Ok(())
 }
 
 fn main(rt: HostRuntime) -> io::Result<()> {
     let mut input = BufReader::new(rt.alloc(), rt.stdin())?;
     let mut out = BufWriter::new(rt.alloc(), rt.stdout())?;
-    let mut record = [0u8; 8];
     let mut work = work_room();
-    let mut recipe = [0u8; 256];
-    for _ in 0..MOST_RECORDS {
-        if !filled(&mut input, &mut record)? {
-            break;
-        }
-        serve(&mut out, &record, &mut work, &mut recipe)?;
-    }
+    serve_all(&mut input, &mut out, &mut work)?;
     out.flush()
 }
