@@ -1,6 +1,5 @@
 -- A record of the program's input: a constant of four bytes, most significant first, a length of one byte, and that many bytes of a recipe.
-use Rattle.std.specs.Prelude.{ℕ, ◌+◌, ◌*◌, List, ◌++◌, get_or, drop, codes, decimal}
-use Rattle.std.specs.Fmt.{signed_decimal}
+use Rattle.std.specs.Prelude.{ℕ, ◌+◌, ◌*◌, List, get_or, drop}
 use Rattle.line.specs.declared.Told.{Told}
 use Rattle.recipe.specs.Check.{checked, checked_told}
 
@@ -10,7 +9,3 @@ constant_of bytes = ((get_or bytes 0 0 * 256 + get_or bytes 1 0) * 256 + get_or 
 -- what checking tells of it
 abbrev pub told_of : List ℕ → Told
 told_of bytes = checked_told (checked (constant_of bytes) (drop 5 bytes))
-
--- the line that is printed of it
-abbrev pub line_text : Told → List ℕ
-line_text told = decimal told.number ++ (codes " " ++ (decimal told.line ++ (codes " " ++ (signed_decimal told.value ++ codes "\n"))))

@@ -9,7 +9,7 @@
 ghost use Rattle.std.specs.Prelude.{◌≡◌, ◌<◌, ◌≤◌, ◌^◌, length, IfOk};
 
 use propagate::Propagated;
-use std::io::{self, BufReader, BufWriter, ErrorKind, Read, Write};
+use std::io::{self, ErrorKind, Read, Write};
 
 #[derive(Drop)]
 struct Head {
@@ -278,21 +278,18 @@ fn run<R: Read, W: Write>(
 }
 
 fn main(rt: HostRuntime) -> io::Result<()> {
-    let mut input = BufReader::new(rt.alloc(), rt.stdin())?;
-    let mut out = BufWriter::new(rt.alloc(), rt.stdout())?;
     let mut bytes = byte_room();
     let mut words = word_room();
     let mut given = [0; 255];
     let mut came = value_room();
     let mut values = value_room();
     run(
-        &mut input,
-        &mut out,
+        &mut rt.stdin(),
+        &mut rt.stdout(),
         &mut bytes,
         &mut words,
         &mut given,
         &mut came,
         &mut values,
-    )?;
-    out.flush()
+    )
 }

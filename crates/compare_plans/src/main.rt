@@ -8,7 +8,7 @@ ghost use Rattle.std.specs.Prelude.{◌≡◌, ◌<◌, length};
 
 use plan::Planned;
 use std::io;
-use std::io::{BufReader, BufWriter, ErrorKind, Read, Write};
+use std::io::{ErrorKind, Read, Write};
 
 // More than any input has: the loop has to end.
 const MOST_RECORDS: u64 = 1_000_000_000;
@@ -95,8 +95,8 @@ fn filled<R: Read>(input: &mut R, room: &mut [u8]) -> io::Result<bool> {
 }
 
 fn main(rt: HostRuntime) -> io::Result<()> {
-    let mut input = BufReader::new(rt.alloc(), rt.stdin())?;
-    let mut out = BufWriter::new(rt.alloc(), rt.stdout())?;
+    let mut input = rt.stdin();
+    let mut out = rt.stdout();
     let mut record = [0u8; 8];
     let mut work = work_room();
     let mut recipe = [0u8; 256];
@@ -106,5 +106,5 @@ fn main(rt: HostRuntime) -> io::Result<()> {
         }
         serve(&mut out, &record, &mut work, &mut recipe)?;
     }
-    out.flush()
+    Ok(())
 }

@@ -12,7 +12,7 @@ ghost use Rattle.compare_writes.specs.Rooms.{Rooms};
 use cnf::named;
 use line::{Told, magnitude};
 use product::Written;
-use std::io::{self, BufReader, BufWriter, Read, Write};
+use std::io::{self, Read, Write};
 
 fn clause_room() -> [i32; 65535]
     ensures { 65535 ≡ length result }
@@ -252,21 +252,18 @@ fn run<R: Read, W: Write>(
 }
 
 fn main(rt: HostRuntime) -> io::Result<()> {
-    let mut input = BufReader::new(rt.alloc(), rt.stdin())?;
-    let mut out = BufWriter::new(rt.alloc(), rt.stdout())?;
     let mut bytes = [0; 1020];
     let mut x = [0; 255];
     let mut recipe = [0; 255];
     let mut bits = [0; 255];
     let mut clauses = clause_room();
     run(
-        &mut input,
-        &mut out,
+        &mut rt.stdin(),
+        &mut rt.stdout(),
         &mut bytes,
         &mut x,
         &mut recipe,
         &mut bits,
         &mut clauses,
-    )?;
-    out.flush()
+    )
 }
