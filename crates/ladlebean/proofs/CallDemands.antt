@@ -526,7 +526,8 @@ module _ (k : Writing) where
 
 -- the same recipe written over other literals, from another number on and in other rooms
 pub other_names : (p : Writing) (z : (write p).told.number ≡ 0) → (write p).x ≡ numbered 1 (write p).w → (write p).first ≡ suc (write p).w
-    → (k : Writing) → (write k).told.number ≡ 0 → (write k).c ≡ (write p).c → (write k).w ≡ (write p).w → (write k).recipe ≡ (write p).recipe
+    → (k : Writing) → (write k).told.number ≡ 0 → (write k).c ≡ (write p).c → (write k).w ≡ (write p).w
+    → (write k).recipe ≡ (write p).recipe
     → Renamed (write k).x (write k).first (as_told (write p)) (write p).bits' (write p).clauses' (as_told (write k)) (write k).bits'
     (write k).clauses'
 other_names p z numbers follows k y same_c same_w same_recipe =

@@ -130,7 +130,8 @@ pub planning_refused : (c : ℕ) (work recipe : List ℕ) (x : Refusal) → (pla
 unfolding planned plan.plan_outcome
 planning_refused c work recipe x e = planning_by split_of (plan_answer split_of c (length work) (length recipe)) c work recipe x e
 
-writing_by : (a : Written) (p : Product) (bits clauses : List ℤ) (x : Refusal) → (write_by a p bits clauses).answer ≡ write-answers.Refused x
+writing_by : (a : Written) (p : Product) (bits clauses : List ℤ) (x : Refusal)
+    → (write_by a p bits clauses).answer ≡ write-answers.Refused x
     → ((write_by a p bits clauses).bits ≡ bits) × ((write_by a p bits clauses).clauses ≡ clauses)
 writing_by (write-answers.Clauses n) p bits clauses x e =
     let z : ◌≡◌ {A = ℕ} 0 1 = cc in

@@ -87,9 +87,11 @@ use Rattle.ladlebean.proofs.ladlebean_propagate.Reads as ArchivePropagate
 
 -- an outcome is an answer and the parameters at exit; `Same` compares two of them
 abbrev Coincide : {n : ℕ} (ps : List (ParamKind n)) (r : ResultKind n) → Out n ps r
-    → ((κs : Lfts n) → (res_t r κs).Denot → (res_t r κs).Denot → AtExit (ended_of n ps r) κs → AtExit (ended_of n ps r) κs → Type 0) → Type 0
+    → ((κs : Lfts n) → (res_t r κs).Denot → (res_t r κs).Denot → AtExit (ended_of n ps r) κs → AtExit (ended_of n ps r) κs → Type 0)
+    → Type 0
 Coincide {n} ps r P Same =
-    (κs : Lfts n) (a : Dens κs ps) (x y : (res_t r κs).Denot) (e f : AtExit (ended_of n ps r) κs) → P κs a x e → P κs a y f → Same κs x y e f
+    (κs : Lfts n) (a : Dens κs ps) (x y : (res_t r κs).Denot) (e f : AtExit (ended_of n ps r) κs) → P κs a x e → P κs a y f
+    → Same κs x y e f
 
 -- where a call only answers
 abbrev Answers : {n : ℕ} (ps : List (ParamKind n)) (r : ResultKind n) → Out n ps r → Type 0

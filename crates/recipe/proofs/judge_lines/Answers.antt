@@ -37,7 +37,8 @@ pub loop-i-preserved : goal.loop-i-preserved
 loop-i-preserved c =
     let l = c.loop-i in
     walking_on (c.args.recipe.now) _ l.seen l.i _ l.invariant (omega arith) (omega arith) (sym ((let l = c.loop-i in
-    judged_seen (c.args.recipe.now) l.seen _ l.i c.judge.result c.judge.ensures c.line_at-line.ensures l.invariant.operands)) ∙ c.in-Kept.is)
+    judged_seen (c.args.recipe.now) l.seen _ l.i c.judge.result c.judge.ensures c.line_at-line.ensures l.invariant.operands))
+        ∙ c.in-Kept.is)
     (ap (λ (x : Line). x.coefficient) c.line_at-line.ensures)
 
 pub returns-then-i-n : goal.returns-then-i-n
@@ -49,4 +50,5 @@ pub returns-in-Broken : goal.returns-in-Broken
 returns-in-Broken c =
     let l = c.loop-i in
     sym (l.invariant.rest ∙ walk_broken _ _ l.i c.in-Broken.x (omega arith) (sym ((let l = c.loop-i in
-    judged_seen (c.args.recipe.now) l.seen _ l.i c.judge.result c.judge.ensures c.line_at-line.ensures l.invariant.operands)) ∙ c.in-Broken.is))
+    judged_seen (c.args.recipe.now) l.seen _ l.i c.judge.result c.judge.ensures c.line_at-line.ensures l.invariant.operands))
+        ∙ c.in-Broken.is))

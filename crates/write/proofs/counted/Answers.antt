@@ -22,17 +22,21 @@ pass-requires c =
     let w = c.args.w in
     let x = take w c.literals.new.out in
     let ok : Writable (length x) c.args.recipe.now c.args.n =
-    subst (λ (k : ℕ). Writable k c.args.recipe.now c.args.n) (sym ((plain_long c.args.w c.literals.new.out c.requires.1 c.literals.ensures))) c.requires.0 in
+    subst (λ (k : ℕ). Writable k c.args.recipe.now c.args.n)
+        (sym ((plain_long c.args.w c.literals.new.out c.requires.1 c.literals.ensures))) c.requires.0 in
     record {
       lines = ok;
       width = omega (arith, (plain_long c.args.w c.literals.new.out c.requires.1 c.literals.ensures), c.requires.1);
-      fit = ap₂ (λ (n : ℕ) (y : List ℤ). unfit n y) (add-one w) ((plain_front c.args.w c.literals.new.out c.requires.1 c.literals.ensures)) ∙ unfit_of _ (numbered 1 w) (numbered_fit w);
+      fit = ap₂ (λ (n : ℕ) (y : List ℤ). unfit n y) (add-one w)
+          ((plain_front c.args.w c.literals.new.out c.requires.1 c.literals.ensures)) ∙ unfit_of _ (numbered 1 w) (numbered_fit w);
       first_pos = omega arith;
       first_fits = omega (arith, c.requires.1);
       next_fits = omega (
         arith,
-        count_fits c.args.recipe.now c.args.n x (omega (arith, (plain_long c.args.w c.literals.new.out c.requires.1 c.literals.ensures), c.requires.1)) ok,
-        ap (λ (k : ℕ). (product_made 0 (lines_from c.args.recipe.now 0 c.args.n) (given x) (k + 1)).next) ((plain_long c.args.w c.literals.new.out c.requires.1 c.literals.ensures)),
+        count_fits c.args.recipe.now c.args.n x (omega (arith, (plain_long c.args.w c.literals.new.out c.requires.1 c.literals.ensures),
+            c.requires.1)) ok,
+        ap (λ (k : ℕ). (product_made 0 (lines_from c.args.recipe.now 0 c.args.n) (given x) (k + 1)).next)
+            ((plain_long c.args.w c.literals.new.out c.requires.1 c.literals.ensures)),
       );
       few_bits = omega arith;
     }

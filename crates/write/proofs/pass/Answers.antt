@@ -11,7 +11,9 @@ write_lines-r-requires c =
       lines = c.requires.lines;
       width = c.requires.width;
       next_pos = c.requires.first_pos;
-      next_fits = lines_fit a.recipe.now a.n a.x.now a.first a.t codes ((x_bits c.args.first c.args.x.now c.requires.width c.requires.fit c.codes.new.out c.codes.ensures)) most_next c.requires.next_fits;
+      next_fits = lines_fit a.recipe.now a.n a.x.now a.first a.t codes
+          ((x_bits c.args.first c.args.x.now c.requires.width c.requires.fit c.codes.new.out c.codes.ensures)) most_next
+          c.requires.next_fits;
       long = c.codes.auto.out;
       blank = x_behind a.first a.x.now c.requires.width c.requires.fit codes c.codes.ensures;
     }
@@ -20,5 +22,6 @@ pub returns : goal.returns
 returns c =
     let y = c.write_y.ensures in
     let a = c.args in
-    pass_is a.recipe.now a.n a.x.now a.first a.t c.codes.new.out ((x_bits c.args.first c.args.x.now c.requires.width c.requires.fit c.codes.new.out c.codes.ensures)) a.size c.write_lines-r.result _
+    pass_is a.recipe.now a.n a.x.now a.first a.t c.codes.new.out
+        ((x_bits c.args.first c.args.x.now c.requires.width c.requires.fit c.codes.new.out c.codes.ensures)) a.size c.write_lines-r.result _
     a.bits.now _ a.clauses.now _ c.write_lines-r.ensures c.requires.few_bits y

@@ -13,7 +13,8 @@ use Rattle.write.proofs.lines.write_lines.Goals as goal
 pub loop-i-init : goal.loop-i-init
 loop-i-init c =
     let a = c.args in (
-      lines_begin a.w a.recipe.now a.n a.next a.room.now a.scratch.now c.requires.width c.requires.next_pos c.requires.long c.requires.blank,
+      lines_begin a.w a.recipe.now a.n a.next a.room.now a.scratch.now c.requires.width c.requires.next_pos c.requires.long
+          c.requires.blank,
       omega arith,
     )
 

@@ -9,7 +9,8 @@ use Rattle.write.proofs.CodeLines.{UptoLine}
 use Rattle.write.proofs.lines.write_lines.Given as goal
 
 abbrev pub invariant-loop-i : goal.invariant-loop-i
-invariant-loop-i l = UptoLine (encoded (columns l.w) (lines_from l.recipe 0 l.n) (bits_of (take l.w l.initial.scratch) ∷ []) l.next) l.w l.recipe l.n l.next l.initial.room l.scratch l.room l.free
+invariant-loop-i l = UptoLine (encoded (columns l.w) (lines_from l.recipe 0 l.n) (bits_of (take l.w l.initial.scratch) ∷ []) l.next) l.w
+    l.recipe l.n l.next l.initial.room l.scratch l.room l.free
     l.used l.made l.i
     × (l.i ≤ l.n)
 
