@@ -1,3 +1,4 @@
 pub mod Place
+pub mod Digits
 pub mod Shown
 pub mod Planning

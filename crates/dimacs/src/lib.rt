@@ -15,6 +15,7 @@ use wording::Printed;
 pub const ROOM: usize = 262_144;
 
 // Puts what the program prints for its whole input into the front of a room.
+#[tactic(auto, using(wording::proofs::Filed::too_short))]
 pub fn file(input: &[u8], out: &mut [u8]) -> Printed
     ensures { Files input.now out.old result out.new }
 {

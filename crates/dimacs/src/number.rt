@@ -26,6 +26,7 @@ pub(crate) fn put_bytes(out: &mut [u8], at: usize, b: &[u8]) -> usize
     e
 }
 
+#[tactic(auto, using(crate::proofs::Digits::put_digits))]
 pub(crate) fn put_decimal(out: &mut [u8], at: usize, n: u64) -> usize
     requires { at + length (decimal n) ≤ length out.old }
     ensures { Put out.old out.new at result (decimal n) }

@@ -1,19 +1,20 @@
 -- Planning: what the tests say of a constant and its rooms, and what the steps give once no test refuses.
 use Prim.Native.Nat.{ℕ, suc, ◌-◌, ◌*◌, ◌/◌, ◌%◌, ◌^◌, ◌≤◌, ◌<◌}
 use mathlib.Core.Path.{◌≡◌, refl, sym, ap, ap₂, ◌∙◌, subst}
-use mathlib.Core.Bool.{true}
+use mathlib.Core.Bool.{true, false}
 use mathlib.Core.List.{List, [], ◌∷◌, map}
 use native.Mathlib.Nat.{le_refl}
 use native.Mathlib.Omega.{arith}
-use lib.ListN.{length, take}
+use lib.ListN.{length, take, drop}
 use lib.Seq.{length-take-le, sets}
 use Rattle.line.proofs.Room.{take_sets}
-use Rattle.line.specs.Limits.{line_bytes, most_bits, most_constant}
+use Rattle.line.specs.Limits.{line_bytes, most_bits, most_constant, out_of_range}
 use Rattle.line.specs.Number.{bit_length, odd_part}
-use Rattle.line.specs.Order.{answer_by, first_broken}
+use Rattle.line.specs.Order.{answer_by, first_broken, refuses}
 use Rattle.line.specs.declared.Line.{Line}
+use Rattle.line.specs.declared.Refusal.TheVariants.{Constant, WorkRoom}
 use Rattle.line.specs.declared.Verdict.{Verdict}
-use Rattle.line.specs.declared.Verdict.TheVariants.{Kept}
+use Rattle.line.specs.declared.Verdict.TheVariants.{Broken, Kept}
 use Rattle.split.specs.Choose.{line_count, lines, look, split_of, splits}
 use Rattle.split.specs.Order.{coefficients, line_for, lines_bytes, operand, ordered, recipe_for}
 use Rattle.split.specs.Reach.{member, set_of, turn}
@@ -23,7 +24,7 @@ use Rattle.plan.specs.Steps.{Coefficients, HoldsSplits, Sized, Whole, WritesLine
 use Rattle.plan.specs.declared.Planned.TheVariants.{Lines, Refused}
 use Rattle.plan.specs.declared.lines.Set.{Set}
 use Rattle.line.proofs.Number.{bits_le, bits_pos, odd_part_le, odd_part_odd}
-use Rattle.line.proofs.Order.{all_kept, kept_all, kept_room, missed, misses, room_kept, within, within_kept}
+use Rattle.line.proofs.Order.{all_kept, first_hit, kept_all, kept_room, missed, misses, room_hits, room_kept, within, within_kept}
 use Rattle.split.proofs.Choose.{splits_legal}
 use Rattle.split.proofs.Closed.{CanLine, Root, set_lined}
 use Rattle.split.proofs.Lines.{lines_half}
@@ -43,6 +44,14 @@ pub by_verdict : (c : ℕ) (w r : List ℕ) (v : Verdict) → first_broken (plan
 unfolding planned plan_outcome plan_answer
 by_verdict c w r v e =
     ap (λ (u : Verdict). plan_by split_of (answer_by Refused (Lines (length (recipe_for split_of (odd_part c)))) u) c w r) e
+
+-- a work room that is too short is refused, where the constant is in range
+pub work_short : (c work recipe d m p : ℕ) → out_of_range c ≡ false → d ≡ odd_part c → m ≡ bit_length d → p ≡ 2 ^ (m - 1) → work < p
+    → Broken WorkRoom ≡ first_broken (plan_tests c work recipe)
+work_short c work recipe d m p ok e f g short =
+    let long : p ≡ 2 ^ (odd_bits c - 1) = g ∙ ap (λ (x : ℕ). 2 ^ (x - 1)) (f ∙ ap bit_length e) in
+    sym (first_hit (refuses (out_of_range c) Constant ∷ []) _ (drop 2 (plan_tests c work recipe)) WorkRoom (misses _ _ ok, tt)
+    (room_hits work (2 ^ (odd_bits c - 1)) WorkRoom (omega arith)))
 
 -- no test refuses a constant in range with rooms that are long enough, and each other is refused
 pub record Passed (c work recipe : ℕ) : Type 0 where

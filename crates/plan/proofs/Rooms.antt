@@ -3,7 +3,7 @@ use Prim.Native.Nat.{ℕ, zero, suc, ◌+◌, ◌-◌, ◌/◌, ◌^◌, ◌≤�
 use mathlib.Core.Path.{◌≡◌, sym, ap, ◌∙◌}
 use mathlib.Core.Bool.{true, false, false≢true}
 use mathlib.Core.List.{List, [], ◌∷◌, ◌++◌}
-use mathlib.Core.Logic.{⊎_elim}
+use mathlib.Core.Logic.{⊎_elim, inr}
 use native.Mathlib.Omega.{arith}
 use native.Mathlib.Numerals.{add-one}
 use lib.Dec.{eqb}
@@ -14,6 +14,7 @@ use borrow.Author.Tests.{eq-eqb}
 use Rattle.line.specs.Number.{bit_length}
 use Rattle.line.proofs.Number.{bits_lt, bits_pos}
 use Rattle.split.specs.Reach.{member}
+use Rattle.plan.specs.Steps.{Fresh}
 use Rattle.split.proofs.Sets.{bool, member_here, member_other, member_skip}
 use Rattle.split.proofs.Splits.{pow_even}
 
@@ -36,6 +37,10 @@ member_at x (a ∷ l) (suc i) (suc n) h k e = ⊎_elim
     (λ q. member_here x a (take n l) q)
     (λ q. member_skip x a (take n l) q ∙ member_at x l i n (omega arith) (omega arith) e)
     (bool (eqb x a))
+
+-- what stands at one of the first n places is not fresh
+pub stale_at : (x : ℕ) (l : List ℕ) (i n : ℕ) → get_or l i 0 ≡ x → i < n → i < length l → Fresh x (take n l) false
+stale_at x l i n e h k = record { when = λ t. absurd (false≢true t); unless = λ f. inr (member_at x l i n h k e) }
 
 -- a store at the end of the first n
 pub push_at : (x : ℕ) (l : List ℕ) (n : ℕ) → n < length l → take (n + 1) (set l n x) ≡ take n l ++ (x ∷ [])

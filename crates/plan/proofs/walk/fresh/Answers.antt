@@ -2,14 +2,14 @@
 use Prim.Native.Nat.{ℕ}
 use mathlib.Core.Path.{◌≡◌, sym, ap, ◌∙◌}
 use mathlib.Core.Bool.{false≢true}
-use mathlib.Core.Logic.{inl, inr}
+use mathlib.Core.Logic.{inl}
 use native.Mathlib.Nat.{le_antisymm}
 use native.Mathlib.Omega.{arith}
 use lib.ListN.{length, take}
 use Rattle.split.specs.Reach.{member}
 use Rattle.plan.specs.Steps.{set_room}
 use Rattle.split.proofs.Sets.{member_none}
-use Rattle.plan.proofs.Rooms.{member_at, member_more}
+use Rattle.plan.proofs.Rooms.{member_more}
 use Rattle.plan.proofs.walk.fresh.Goals as goal
 
 pub returns-then-x-lt2 : goal.returns-then-x-lt2
@@ -18,22 +18,11 @@ returns-then-x-lt2 c = record { when = λ e. absurd (false≢true e); unless = �
 pub loop-i-init : goal.loop-i-init
 loop-i-init c = (omega arith, omega arith, member_none _, omega arith)
 
-pub returns-then-set-i : goal.returns-then-set-i
-returns-then-set-i c =
-    let i = c.loop-i.i in
-    let full : length c.args.set.now ≡ set_room = c.requires.1 in
-    record {
-      when = λ e. absurd (false≢true e);
-      unless =
-          λ e. inr (member_at c.args.x c.args.set.now i c.args.len c.loop-i-test.true (omega arith)
-          c.if-set-i.true);
-    }
-
 pub loop-i-preserved : goal.loop-i-preserved
 loop-i-preserved c =
     let l = c.loop-i in
     let full : length c.args.set.now ≡ set_room = c.requires.1 in
-    (omega arith, omega arith, member_more c.args.x c.args.set.now l.i (omega arith) l.invariant.2 c.if-set-i.false, l.invariant.3)
+    (omega arith, omega arith, member_more c.args.x c.args.set.now l.i (omega arith) l.invariant.2 (λ e. omega arith), l.invariant.3)
 
 pub returns : goal.returns
 returns c =
