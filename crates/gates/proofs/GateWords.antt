@@ -72,3 +72,12 @@ module _ (cs : List Clause) (rest : List ℤ) where
   pub stays : length rest < length (words cs) → rest ≡ after cs rest
   unfolding after
   stays h = rw (lt-ltb (length rest) (length (words cs)) h) refl
+
+  -- the same, by the words that are counted for them
+  pub taken_fits : (taken cs).words ≤ length rest → sets rest 0 (words cs) ≡ after cs rest
+  unfolding taken
+  taken_fits h = fits h
+
+  pub taken_stays : length rest < (taken cs).words → rest ≡ after cs rest
+  unfolding taken
+  taken_stays h = stays h

@@ -1,5 +1,5 @@
 -- The words of codes, as the machine finds them and one after another in a room.
-use Prim.Native.Nat.{ℕ, zero, suc, ◌+◌, ◌<◌, ◌^◌}
+use Prim.Native.Nat.{ℕ, zero, suc, ◌+◌, ◌/◌, ◌%◌, ◌<◌, ◌^◌}
 use mathlib.Core.Path.{◌≡◌, sym, ap, ◌∙◌}
 use mathlib.Core.List.{List, [], ◌∷◌, ◌++◌, map-append}
 use native.Mathlib.Numerals.{add-one}
@@ -14,6 +14,7 @@ use mir.ValLaws.{to_z_pos, to_z-of_z}
 use Rattle.line.proofs.Room.{store_next}
 use Rattle.cnf.specs.Words.{word}
 use Rattle.gates.specs.Code.{literal_of, code_words}
+use Rattle.gates.proofs.Codes.{word_even, word_odd}
 
 -- ---- signed words
 
@@ -27,6 +28,15 @@ minus n h = ap (λ (z : ℤ). pos 0 -ℤ z) (to_z_pos w32 n h) ∙ +ℤ_idl (neg
 
 pub minus_fits : (n : ℕ) → n < 2 ^ 31 → SFits w32 (pos 0 -ℤ to_z w32 n)
 minus_fits n h = rw (minus n h) (neg_fits n h)
+
+-- the word of a code, as the machine finds it from the code's half: even, and odd
+pub word_plain : (b : ℕ) → b < 2 ^ 32 → b % 2 ≡ 0 → to_z w32 (b / 2) ≡ word (literal_of b)
+word_plain b h e = to_z_pos w32 (b / 2) (omega arith) ∙ sym (word_even b e)
+
+pub word_minus : (b : ℕ) → b < 2 ^ 32 → (b % 2 ≡ 0 → ⊥) → to_z w32 (of_z w32 (pos 0 -ℤ to_z w32 (b / 2))) ≡ word (literal_of b)
+word_minus b h e =
+    let f : b / 2 < 2 ^ 31 = omega arith in
+    to_z-of_z w32 _ (minus_fits (b / 2) f) ∙ (minus (b / 2) f ∙ sym (word_odd b e))
 
 -- ---- one after another
 

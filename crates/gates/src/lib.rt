@@ -18,6 +18,7 @@ fn negated(b: u32) -> u32
 }
 
 // Negated if f is odd.
+#[tactic(auto, using(crate::proofs::Codes::flipped_odd, crate::proofs::Codes::flipped_even))]
 pub fn flipped(b: u32, f: u32) -> u32
     ensures { result ≡ flipped_code b f }
 {
@@ -25,6 +26,7 @@ pub fn flipped(b: u32, f: u32) -> u32
 }
 
 // The word of a code's literal; the codes 0 and 1, of the fixed bits, have the word 0.
+#[tactic(auto, using(crate::proofs::Stores::word_plain, crate::proofs::Stores::word_minus))]
 pub fn word(b: u32) -> i32
     ensures { result ≡ word (literal_of b) }
 {
@@ -178,6 +180,7 @@ fn column_taken(parity: Gate, majority: Gate) -> Taken
 }
 
 // Writes a column's gates, the sum's and the carry's, into the rest of the clause room, if they fit there. Answers what they take.
+#[tactic(auto, using(crate::proofs::GateWords::taken_fits, crate::proofs::GateWords::taken_stays))]
 pub fn write_column(parity: Gate, majority: Gate, rest: &mut [i32]) -> Taken
     ensures value { result ≡ taken (column_clauses parity majority) }
     ensures rest_after { rest.new ≡ after (column_clauses parity majority) rest.old }
