@@ -347,14 +347,19 @@ module _ (ρ : Renaming) where
   pub encoded_renamed : {n m : ℕ} → Renames ρ n m → (f : ℕ → ℕ) (ls : List Line) (os os' : List (List Bit)) → os' ≡ operands_renamed os
       → EncodedRenamed n m (encoded f ls os n) (encoded f ls os' m)
   unfolding encoded
-  encoded_renamed {n = n} {m = m} h f [] os os' e = record { operands = e; clauses = refl; opened = 0; next = omega arith;
-      next' = omega arith }
+  encoded_renamed {n = n} {m = m} h f [] os os' e = record {
+    operands = e;
+    clauses = refl;
+    opened = 0;
+    next = omega arith;
+    next' = omega arith;
+  }
   encoded_renamed {n = n} {m = m} h f (l ∷ ls) os os' e =
       let s : Sum = line_encoded f l os n in
       let s' : Sum = line_encoded f l os' m in
       let a : SumRenamed n m s s' = rw (e) (line_encoded_renamed h f l os) in
       let b = encoded_renamed {n = s.next} {m = s'.next} (renames_more a.opened h a.next a.next') f ls (os ++ (s.bits ∷ []))
-          (os' ++ (s'.bits ∷ []))
+      (os' ++ (s'.bits ∷ []))
       (ap₂ (λ (o : List (List Bit)) (x : List Bit). o ++ (x ∷ [])) e a.bits ∙ sym (map-append (bits_renamed ρ) os (s.bits ∷ []))) in
       record {
         operands = b.operands;

@@ -215,11 +215,11 @@ module _ (t : ℕ → ℕ) (L : ℕ) (small : L < 32) (d : ℕ) (root : Root t L
 pub lines_cong : (t u : ℕ → ℕ) (ks xs : List ℕ) → ((x : ℕ) → member x xs ≡ true → t x ≡ u x)
     → map (line_for t ks) xs ≡ map (line_for u ks) xs
 unfolding line_for
-lines_cong t u ks [] h = refl
-lines_cong t u ks (x ∷ xs) h = ap₂ (λ (s : ℕ) (ls : List Line).
-    record { top = 0; kind = s / 32; left = operand (left s x) ks; shift = s % 32; right = operand (right s x) ks; coefficient = x } ∷ ls)
+lines_cong t u all [] h = refl
+lines_cong t u all (x ∷ xs) h = ap₂ (λ (s : ℕ) (ls : List Line).
+    record { top = 0; kind = s / 32; left = operand (left s x) all; shift = s % 32; right = operand (right s x) all; coefficient = x } ∷ ls)
     (h x (member_head x xs))
-    (lines_cong t u ks xs (λ y m. h y (cons_member y x xs m)))
+    (lines_cong t u all xs (λ y m. h y (cons_member y x xs m)))
 
 module _ (t : ℕ → ℕ) (L : ℕ) (small : L < 32) (h : Lookup t L) (d : ℕ) (odd : d % 2 ≡ 1) (short : bit_length d ≤ L) where
   legals : Legal t (suc (turn d))

@@ -101,7 +101,7 @@ x_holds scratch w h blank =
           ap (λ (i : ℕ). bit_of (get_or scratch i 0)) e
           ∙ (ap bit_of same
           ∙ (sym (bit_at (take w scratch) j) ∙ ap (λ (i : ℕ). get_or (get_or (bits_of (take w scratch) ∷ []) i []) j (fixed false))
-              (sym z)));
+          (sym z)));
       behind = λ j p. blank j (omega arith);
     }
 

@@ -227,7 +227,7 @@ pub record Needs (first : ℕ) (x : List ℤ) (p : Product) (r : Place) : Type 0
 -- the zeros below y change nothing else
 any_shift : (ls : List Line) (bs : List Bit) (m t u : ℕ)
     → ((product_made t ls bs m).next ≡ (product_made u ls bs m).next)
-        × ((product_made t ls bs m).clauses ≡ (product_made u ls bs m).clauses)
+    × ((product_made t ls bs m).clauses ≡ (product_made u ls bs m).clauses)
 unfolding product_made
 any_shift ls bs m t u = (refl, refl)
 

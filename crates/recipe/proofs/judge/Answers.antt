@@ -52,11 +52,11 @@ returns-then-claimed-given c =
     sym ((let a = c.args in
     let line = a.line in
     let given = gives_whole line _ _ c.requires.kind_bound.0 c.requires.kind_bound.1 (c.requires.by_index _ c.if-left-i.false)
-        (c.requires.by_index _ c.if-right-i.false) in
+    (c.requires.by_index _ c.if-right-i.false) in
     judged_value line a.i _ _ c.if-top-gt0.false c.if-kind-eq0.false c.if-left-i.false c.if-right-i.false c.if-coefficient-eq0.false
     ∙ ap (value_judged line.coefficient (a.i + 1)) (sym (c.gives-given.ensures ∙ given)))
-        ∙ ap (answer (i + 1) c.gives-given.result) (sym ((claims_bits c.args.line.coefficient c.gives-given.result c.requires.kind_bound.2
-        c.gives-given.type_inv)) ∙ eq-eqb _ _ c.if-claimed-given.true))
+    ∙ ap (answer (i + 1) c.gives-given.result) (sym ((claims_bits c.args.line.coefficient c.gives-given.result c.requires.kind_bound.2
+    c.gives-given.type_inv)) ∙ eq-eqb _ _ c.if-claimed-given.true))
 
 pub returns-else-claimed-given : goal.returns-else-claimed-given
 returns-else-claimed-given c =
@@ -66,8 +66,8 @@ returns-else-claimed-given c =
     ∙ sym ((let a = c.args in
     let line = a.line in
     let given = gives_whole line _ _ c.requires.kind_bound.0 c.requires.kind_bound.1 (c.requires.by_index _ c.if-left-i.false)
-        (c.requires.by_index _ c.if-right-i.false) in
+    (c.requires.by_index _ c.if-right-i.false) in
     judged_value line a.i _ _ c.if-top-gt0.false c.if-kind-eq0.false c.if-left-i.false c.if-right-i.false c.if-coefficient-eq0.false
     ∙ ap (value_judged line.coefficient (a.i + 1)) (sym (c.gives-given.ensures ∙ given)))
-        ∙ ap (answer (i + 1) z) (sym ((claims_bits c.args.line.coefficient c.gives-given.result c.requires.kind_bound.2
-        c.gives-given.type_inv)) ∙ ne_eqb _ _ c.if-claimed-given.false))
+    ∙ ap (answer (i + 1) z) (sym ((claims_bits c.args.line.coefficient c.gives-given.result c.requires.kind_bound.2
+    c.gives-given.type_inv)) ∙ ne_eqb _ _ c.if-claimed-given.false))

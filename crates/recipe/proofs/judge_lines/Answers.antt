@@ -38,7 +38,7 @@ loop-i-preserved c =
     let l = c.loop-i in
     walking_on (c.args.recipe.now) _ l.seen l.i _ l.invariant (omega arith) (omega arith) (sym ((let l = c.loop-i in
     judged_seen (c.args.recipe.now) l.seen _ l.i c.judge.result c.judge.ensures c.line_at-line.ensures l.invariant.operands))
-        ∙ c.in-Kept.is)
+    ∙ c.in-Kept.is)
     (ap (λ (x : Line). x.coefficient) c.line_at-line.ensures)
 
 pub returns-then-i-n : goal.returns-then-i-n
@@ -51,4 +51,4 @@ returns-in-Broken c =
     let l = c.loop-i in
     sym (l.invariant.rest ∙ walk_broken _ _ l.i c.in-Broken.x (omega arith) (sym ((let l = c.loop-i in
     judged_seen (c.args.recipe.now) l.seen _ l.i c.judge.result c.judge.ensures c.line_at-line.ensures l.invariant.operands))
-        ∙ c.in-Broken.is))
+    ∙ c.in-Broken.is))

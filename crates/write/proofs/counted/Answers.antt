@@ -23,7 +23,7 @@ pass-requires c =
     let x = take w c.literals.new.out in
     let ok : Writable (length x) c.args.recipe.now c.args.n =
     subst (λ (k : ℕ). Writable k c.args.recipe.now c.args.n)
-        (sym ((plain_long c.args.w c.literals.new.out c.requires.1 c.literals.ensures))) c.requires.0 in
+    (sym ((plain_long c.args.w c.literals.new.out c.requires.1 c.literals.ensures))) c.requires.0 in
     record {
       lines = ok;
       width = omega (arith, (plain_long c.args.w c.literals.new.out c.requires.1 c.literals.ensures), c.requires.1);
@@ -33,8 +33,11 @@ pass-requires c =
       first_fits = omega (arith, c.requires.1);
       next_fits = omega (
         arith,
-        count_fits c.args.recipe.now c.args.n x (omega (arith, (plain_long c.args.w c.literals.new.out c.requires.1 c.literals.ensures),
-            c.requires.1)) ok,
+        count_fits c.args.recipe.now c.args.n x (omega (
+          arith,
+          (plain_long c.args.w c.literals.new.out c.requires.1 c.literals.ensures),
+          c.requires.1,
+        )) ok,
         ap (λ (k : ℕ). (product_made 0 (lines_from c.args.recipe.now 0 c.args.n) (given x) (k + 1)).next)
             ((plain_long c.args.w c.literals.new.out c.requires.1 c.literals.ensures)),
       );

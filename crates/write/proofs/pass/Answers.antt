@@ -23,5 +23,5 @@ returns c =
     let y = c.write_y.ensures in
     let a = c.args in
     pass_is a.recipe.now a.n a.x.now a.first a.t c.codes.new.out
-        ((x_bits c.args.first c.args.x.now c.requires.width c.requires.fit c.codes.new.out c.codes.ensures)) a.size c.write_lines-r.result _
+    ((x_bits c.args.first c.args.x.now c.requires.width c.requires.fit c.codes.new.out c.codes.ensures)) a.size c.write_lines-r.result _
     a.bits.now _ a.clauses.now _ c.write_lines-r.ensures c.requires.few_bits y

@@ -13,12 +13,19 @@ returns-then-not_a_width c = rw ((sym c.out_of_range.ensures ∙ c.if-out_of_ran
 
 pub returns-then-not_literals : goal.returns-then-not_literals
 returns-then-not_literals c =
-    rw ((sym c.out_of_range.ensures ∙ c.if-out_of_range.false), (sym c.not_a_width.ensures ∙ c.if-not_a_width.false),
-        sym c.not_literals.ensures, c.if-not_literals.true)
+    rw (
+      (sym c.out_of_range.ensures ∙ c.if-out_of_range.false),
+      (sym c.not_a_width.ensures ∙ c.if-not_a_width.false),
+      sym c.not_literals.ensures,
+      c.if-not_literals.true,
+    )
 
 pub returns : goal.returns
 returns c =
     let s = c.args.recipe.now in
-    rw ((sym c.out_of_range.ensures ∙ c.if-out_of_range.false), (sym c.not_a_width.ensures ∙ c.if-not_a_width.false),
-        (sym c.not_literals.ensures ∙ c.if-not_literals.false))
+    rw (
+      (sym c.out_of_range.ensures ∙ c.if-out_of_range.false),
+      (sym c.not_a_width.ensures ∙ c.if-not_a_width.false),
+      (sym c.not_literals.ensures ∙ c.if-not_literals.false),
+    )
     (c.check_lines.ensures ∙ ap (λ (d : ℕ). recipe_judged d s) c.odd_part.ensures.0 ∙ sym (alone _))

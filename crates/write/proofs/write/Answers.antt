@@ -21,16 +21,21 @@ largest-requires c = ((let a = c.args in kept_inputs a.c a.w a.x.now a.first a.r
 pub overflow_mul-c : goal.overflow_mul-c
 overflow_mul-c c =
     let k = c.args.c in
-    omega (arith, small_product k c.largest.result (omega (arith,
-        ((let a = c.args in kept_inputs a.c a.w a.x.now a.first a.recipe.now ((sym c.test_inputs.ensures ∙ c.in-Kept.is)))).constant.1))
-        c.largest.ensures.1)
+    omega (
+      arith,
+      small_product k c.largest.result (omega (
+        arith,
+        ((let a = c.args in kept_inputs a.c a.w a.x.now a.first a.recipe.now ((sym c.test_inputs.ensures ∙ c.in-Kept.is)))).constant.1,
+      ))
+          c.largest.ensures.1,
+    )
 
 pub write_product-requires : goal.write_product-requires
 write_product-requires c =
     let a = c.args in
     let t = c.twos in
     can_write a.c a.w a.x.now a.first a.recipe.now ((sym c.test_inputs.ensures ∙ c.in-Kept.is)) t.result c.bit_length-size.result
-        t.ensures.0 ((let k = c.args.c in
+    t.ensures.0 ((let k = c.args.c in
     c.bit_length-size.ensures.0 ∙ ap (λ (n : ℕ). bit_length (k * n)) c.largest.ensures.0))
 
 pub returns : goal.returns
@@ -39,6 +44,6 @@ returns c =
     let t = c.twos in
     c.write_product.ensures
     ∙ all_passed a.c a.w a.x.now a.first a.recipe.now ((sym c.test_inputs.ensures ∙ c.in-Kept.is)) t.result c.bit_length-size.result
-        t.ensures.0 ((let k = c.args.c in
+    t.ensures.0 ((let k = c.args.c in
     c.bit_length-size.ensures.0 ∙ ap (λ (n : ℕ). bit_length (k * n)) c.largest.ensures.0))
     a.bits.now a.clauses.now

@@ -14,7 +14,7 @@ use Rattle.write.proofs.write_product.Goals as goal
 pub returns-in-Broken : goal.returns-in-Broken
 returns-in-Broken c =
     need_refused ((let a = c.args in product_made a.t (lines_from a.recipe.now 0 a.n) (given a.x.now) a.first)) c.args.size
-        c.args.bits.now c.args.clauses.now c.in-Broken.r
+    c.args.bits.now c.args.clauses.now c.in-Broken.r
     ((let a = c.args in
     sym (c.test_needs.ensures
     ∙ ap₂ (λ (n m : ℕ). first_broken (need_tests n a.size m (length a.bits.now) (length a.clauses.now)))
@@ -27,7 +27,7 @@ returns-in-Broken c =
 pub pass-done-requires : goal.pass-done-requires
 pass-done-requires c =
     let f = kept_fits ((let a = c.args in product_made a.t (lines_from a.recipe.now 0 a.n) (given a.x.now) a.first)) c.args.size
-        (length c.args.bits.now) (length c.args.clauses.now) (((let a = c.args in
+    (length c.args.bits.now) (length c.args.clauses.now) (((let a = c.args in
     sym (c.test_needs.ensures
     ∙ ap₂ (λ (n m : ℕ). first_broken (need_tests n a.size m (length a.bits.now) (length a.clauses.now)))
     ((let a = c.args in
@@ -55,7 +55,7 @@ pub returns : goal.returns
 returns c =
     let d = c.pass-done in
     both_fit ((let a = c.args in product_made a.t (lines_from a.recipe.now 0 a.n) (given a.x.now) a.first)) c.args.size c.args.bits.now
-        c.args.clauses.now (((let a = c.args in
+    c.args.clauses.now (((let a = c.args in
     sym (c.test_needs.ensures
     ∙ ap₂ (λ (n m : ℕ). first_broken (need_tests n a.size m (length a.bits.now) (length a.clauses.now)))
     ((let a = c.args in

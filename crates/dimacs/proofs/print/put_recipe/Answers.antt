@@ -12,7 +12,8 @@ put_written-requires c = let a = c.args in
     let hb = c.write_plain-written.auto.bits in
     let hw = c.write_plain-written.auto.clauses in
     record {
-      written_fits = written_fits a.c a.w a.recipe.now (replicate program_bits (pos 0)) c.word_room-words.result c.write_plain-written.result
+      written_fits = written_fits a.c a.w a.recipe.now (replicate program_bits (pos 0)) c.word_room-words.result
+          c.write_plain-written.result
           c.write_plain-written.new.bits c.write_plain-written.new.clauses
           c.write_plain-written.ensures hb hw;
       words_in_bounds = omega (arith, hb, hw, c.word_room-words.ensures);

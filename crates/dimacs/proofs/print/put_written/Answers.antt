@@ -9,14 +9,16 @@ use Rattle.dimacs.proofs.print.put_written.Goals as goal
 
 pub slice_bounds-put_file-end : goal.slice_bounds-put_file-end
 slice_bounds-put_file-end c =
-    sym (length-take-le c.in-Clauses.n.bits c.args.bits.now ((fits_as (length c.args.bits.now) (length c.args.words.now) c.in-Clauses.is c.requires.written_fits)).0)
+    sym (length-take-le c.in-Clauses.n.bits c.args.bits.now ((fits_as (length c.args.bits.now) (length c.args.words.now) c.in-Clauses.is
+    c.requires.written_fits)).0)
 
 pub overflow_sub-n : goal.overflow_sub-n
 overflow_sub-n c = ((fits_as (length c.args.bits.now) (length c.args.words.now) c.in-Clauses.is c.requires.written_fits)).2
 
 pub slice_bounds-put_file-end-in-Clauses : goal.slice_bounds-put_file-end-in-Clauses
 slice_bounds-put_file-end-in-Clauses c =
-    sym (length-take-le c.in-Clauses.n.words c.args.words.now ((fits_as (length c.args.bits.now) (length c.args.words.now) c.in-Clauses.is c.requires.written_fits)).1)
+    sym (length-take-le c.in-Clauses.n.words c.args.words.now
+    ((fits_as (length c.args.bits.now) (length c.args.words.now) c.in-Clauses.is c.requires.written_fits)).1)
 
 pub put_file-requires : goal.put_file-requires
 put_file-requires c = simp length-take (omega arith)

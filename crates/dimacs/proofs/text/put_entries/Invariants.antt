@@ -7,7 +7,8 @@ use Rattle.wording.specs.File.{entries}
 use Rattle.dimacs.proofs.text.put_entries.Given as goal
 
 abbrev pub invariant-loop-i : goal.invariant-loop-i
-invariant-loop-i l = (l.i ≤ length l.ys) × (l.e ≤ l.at + 12 * l.i) × (length l.out ≡ length l.initial.out) × Put l.initial.out l.out l.at l.e (entries (take l.i l.ys))
+invariant-loop-i l = (l.i ≤ length l.ys) × (l.e ≤ l.at + 12 * l.i) × (length l.out ≡ length l.initial.out)
+    × Put l.initial.out l.out l.at l.e (entries (take l.i l.ys))
 
 abbrev pub decreases-loop-i : goal.decreases-loop-i
 decreases-loop-i l = length l.ys - l.i

@@ -7,7 +7,8 @@ use Rattle.wording.specs.File.{words_text}
 use Rattle.dimacs.proofs.text.put_words.Given as goal
 
 abbrev pub invariant-loop-i : goal.invariant-loop-i
-invariant-loop-i l = (l.i ≤ length l.words) × (l.e ≤ l.at + 12 * l.i) × (length l.out ≡ length l.initial.out) × Put l.initial.out l.out l.at l.e (words_text (take l.i l.words))
+invariant-loop-i l = (l.i ≤ length l.words) × (l.e ≤ l.at + 12 * l.i) × (length l.out ≡ length l.initial.out)
+    × Put l.initial.out l.out l.at l.e (words_text (take l.i l.words))
 
 abbrev pub decreases-loop-i : goal.decreases-loop-i
 decreases-loop-i l = length l.words - l.i

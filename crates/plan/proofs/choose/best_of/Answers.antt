@@ -53,7 +53,8 @@ better_of-b-requires c = (
 
 pub overflow_add-p-in-loop-rest : goal.overflow_add-p-in-loop-rest
 overflow_add-p-in-loop-rest c =
-    let s : Splits c.args.k (c.loop-rest.p + c.twos-p.result) c.args.n = next c.args.k c.args.places c.loop-rest.p c.loop-rest.rest c.twos-p.result c.requires.0 c.requires.2 c.requires.3 c.requires.5
+    let s : Splits c.args.k (c.loop-rest.p + c.twos-p.result) c.args.n = next c.args.k c.args.places c.loop-rest.p c.loop-rest.rest
+    c.twos-p.result c.requires.0 c.requires.2 c.requires.3 c.requires.5
     c.loop-rest.invariant.2 c.loop-rest.invariant.4 c.loop-rest-test.true c.twos-p.ensures.0 in
     omega (arith, s.short)
 
@@ -62,7 +63,8 @@ loop-rest-smaller c = omega (arith, c.odd_part-rest.ensures.1, c.loop-rest-test.
 
 pub loop-rest-preserved : goal.loop-rest-preserved
 loop-rest-preserved c =
-    let s : Splits c.args.k (c.loop-rest.p + c.twos-p.result) c.args.n = next c.args.k c.args.places c.loop-rest.p c.loop-rest.rest c.twos-p.result c.requires.0 c.requires.2 c.requires.3 c.requires.5
+    let s : Splits c.args.k (c.loop-rest.p + c.twos-p.result) c.args.n = next c.args.k c.args.places c.loop-rest.p c.loop-rest.rest
+    c.twos-p.result c.requires.0 c.requires.2 c.requires.3 c.requires.5
     c.loop-rest.invariant.2 c.loop-rest.invariant.4 c.loop-rest-test.true c.twos-p.ensures.0 in
     let a = c.args in
     let t = look a.work.now in

@@ -24,14 +24,16 @@ pub best_of-b-requires : goal.best_of-b-requires
 best_of-b-requires c =
     let n = c.args.n in
     let b = c.best_of-a in
-    let places = subst (λ (x : ℕ). Places 2 (2 * x - 1 - n) n) (sym ((c.power-whole.ensures.0 ∙ ap (λ (x : ℕ). 2 ^ x) c.bits.ensures.0))) (places_sminus n) in
+    let places = subst (λ (x : ℕ). Places 2 (2 * x - 1 - n) n) (sym ((c.power-whole.ensures.0 ∙ ap (λ (x : ℕ). 2 ^ x) c.bits.ensures.0)))
+    (places_sminus n) in
     (c.requires.0, b.ensures.1, omega arith, omega arith, b.ensures.0, places)
 
 pub best_of-requires : goal.best_of-requires
 best_of-requires c =
     let n = c.args.n in
     let b = c.best_of-b in
-    let places = subst (λ (x : ℕ). Places 3 (x - 1 - n) n) (sym ((c.power-whole.ensures.0 ∙ ap (λ (x : ℕ). 2 ^ x) c.bits.ensures.0))) (places_minuss n) in
+    let places = subst (λ (x : ℕ). Places 3 (x - 1 - n) n) (sym ((c.power-whole.ensures.0 ∙ ap (λ (x : ℕ). 2 ^ x) c.bits.ensures.0)))
+    (places_minuss n) in
     (c.requires.0, b.ensures.1, omega arith, omega arith, b.ensures.0, places)
 
 pub returns : goal.returns

@@ -8,7 +8,8 @@ use Rattle.plan.specs.Steps.{Filled, set_room}
 use Rattle.plan.proofs.fill.fill.Given as goal
 
 abbrev pub invariant-loop-m : goal.invariant-loop-m
-invariant-loop-m l = Filled split_of l.initial.work l.work (l.m - 1) × Filled (line_count split_of) l.counts l.counts (l.m - 1) × (1 < l.m) × (l.m ≤ l.top + 1) × (l.top ≤ most_bits)
+invariant-loop-m l = Filled split_of l.initial.work l.work (l.m - 1) × Filled (line_count split_of) l.counts l.counts (l.m - 1)
+    × (1 < l.m) × (l.m ≤ l.top + 1) × (l.top ≤ most_bits)
     × (2 ^ (l.top - 1) ≤ length l.initial.work) × (length l.counts ≡ 2 ^ (most_bits - 1)) × (length l.set ≡ set_room)
 
 abbrev pub decreases-loop-m : goal.decreases-loop-m

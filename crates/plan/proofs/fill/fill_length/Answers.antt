@@ -4,8 +4,10 @@ use Rattle.plan.proofs.Fills.{filling_all, filling_none, filling_small, in_count
 use Rattle.plan.proofs.fill.fill_length.Goals as goal
 
 pub loop-i-init : goal.loop-i-init
-loop-i-init c =
-    (filling_none c.requires.0 c.requires.1 c.requires.2 c.requires.3 c.requires.4 c.requires.5 c.power-low.ensures.0 c.power-i.ensures.0, c.requires.6)
+loop-i-init c = (
+  filling_none c.requires.0 c.requires.1 c.requires.2 c.requires.3 c.requires.4 c.requires.5 c.power-low.ensures.0 c.power-i.ensures.0,
+  c.requires.6,
+)
 
 pub overflow_mul-i : goal.overflow_mul-i
 overflow_mul-i c = omega (arith, filling_small c.loop-i.invariant.0)
