@@ -42,6 +42,9 @@ member_at x (a ∷ l) (suc i) (suc n) h k e = ⊎_elim
 pub stale_at : (x : ℕ) (l : List ℕ) (i n : ℕ) → get_or l i 0 ≡ x → i < n → i < length l → Fresh x (take n l) false
 stale_at x l i n e h k = record { when = λ t. absurd (false≢true t); unless = λ f. inr (member_at x l i n h k e) }
 
+-- what `fresh` meets at each place
+pub ruleset seen_at = (stale_at, member_more)
+
 -- a store at the end of the first n
 pub push_at : (x : ℕ) (l : List ℕ) (n : ℕ) → n < length l → take (n + 1) (set l n x) ≡ take n l ++ (x ∷ [])
 push_at x l n h = ap (λ (k : ℕ). take k (set l n x)) (add-one n) ∙ take-suc-set l n x h

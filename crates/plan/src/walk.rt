@@ -72,7 +72,7 @@ pub(crate) fn operands_at(k: u64, p: usize, n: usize) -> Operands
 // ---- the set walk
 
 // Whether x is above 1 and none of the set's first len.
-#[tactic(auto, using(crate::proofs::Rooms::stale_at))]
+#[tactic(auto, using(crate::proofs::Rooms::seen_at))]
 fn fresh(set: &[usize; SET_ROOM], len: usize, x: usize) -> bool
     requires { (len ≤ set_room) × (length set.now ≡ set_room) }
     ensures { Fresh x (take len set.now) result }

@@ -1,15 +1,13 @@
 -- `plan::walk::fresh`: x is none of the first i of the set.
 use Prim.Native.Nat.{ℕ}
-use mathlib.Core.Path.{◌≡◌, sym, ap, ◌∙◌}
+use mathlib.Core.Path.{sym, ap, ◌∙◌}
 use mathlib.Core.Bool.{false≢true}
 use mathlib.Core.Logic.{inl}
 use native.Mathlib.Nat.{le_antisymm}
 use native.Mathlib.Omega.{arith}
-use lib.ListN.{length, take}
+use lib.ListN.{take}
 use Rattle.split.specs.Reach.{member}
-use Rattle.plan.specs.Steps.{set_room}
 use Rattle.split.proofs.Sets.{member_none}
-use Rattle.plan.proofs.Rooms.{member_more}
 use Rattle.plan.proofs.walk.fresh.Goals as goal
 
 pub returns-then-x-lt2 : goal.returns-then-x-lt2
@@ -17,12 +15,6 @@ returns-then-x-lt2 c = record { when = λ e. absurd (false≢true e); unless = �
 
 pub loop-i-init : goal.loop-i-init
 loop-i-init c = (omega arith, omega arith, member_none _, omega arith)
-
-pub loop-i-preserved : goal.loop-i-preserved
-loop-i-preserved c =
-    let l = c.loop-i in
-    let full : length c.args.set.now ≡ set_room = c.requires.1 in
-    (omega arith, omega arith, member_more c.args.x c.args.set.now l.i (omega arith) l.invariant.2 (λ e. omega arith), l.invariant.3)
 
 pub returns : goal.returns
 returns c =
