@@ -78,6 +78,16 @@ module _ (gs : List ℤ) (came room : List ℕ) (i : ℕ) (g : Giving gs came ro
                   (ap₂ (λ (n m : ℕ). set room (n - 1) m) (sym ev) (sym ew));
             }
 
+-- the same of the literals that are left: the first, of a variable that has a value, is not taken
+pub giving_before_left : (gs : List ℤ) (room : List ℕ) (i : ℕ) → i < length gs → (named (get_or gs i (pos 0)) ≡ 0 → ⊥)
+    → named (get_or gs i (pos 0)) ≤ length room → get_or room (named (get_or gs i (pos 0)) - 1) 0 < 2
+    → given_rest (drop i gs) room ≡ record { held = false; room = room }
+giving_before_left gs room i h f l k =
+    let e = drop-cons gs i (pos 0) h in
+    giving_before (drop i gs) room room 0 (giving_begins (drop i gs) room) (get_or gs i (pos 0))
+    (omega (arith, ap (λ (x : List ℤ). length x) e)) (sym (ap (λ (x : List ℤ). get_or x 0 (pos 0)) e))
+    (named (get_or gs i (pos 0))) refl f l k
+
 -- ---- a room without a value
 
 pub record Looking (room : List ℕ) (i : ℕ) : Type 0 where
@@ -106,6 +116,13 @@ module _ (room : List ℕ) (i : ℕ) (l : Looking room i) where
         looking_next h ∙ ap (λ (b : Bool). b && all_unknown (drop (suc i) room)) (eq-eqb (get_or room i 0) 2 e)
         ∙ ap (λ (k : ℕ). all_unknown (drop k room)) (sym (add-one i));
   }
+
+-- the same of the values that are left: the first, a value, is found
+pub looking_finds_left : (room : List ℕ) (i : ℕ) → i < length room → (get_or room i 0 ≡ 2 → ⊥) → all_unknown (drop i room) ≡ false
+looking_finds_left room i h f =
+    let e = drop-cons room i 0 h in
+    looking_finds (drop i room) 0 (looking_begins (drop i room)) (omega (arith, ap (λ (x : List ℕ). length x) e))
+    (λ q. f (sym (ap (λ (x : List ℕ). get_or x 0 0) e) ∙ q))
 
 pub unknown_room : (room : List ℕ) → all_unknown room ≡ true → room ≡ unknowns (length room)
 unfolding all_unknown
@@ -182,3 +199,24 @@ module _ (ws gs : List ℤ) (allowance : ℕ) (room : List ℕ) where
         pub call_refused : (x : Refusal) → a ≡ Refused x → (r : List ℕ) → r ≡ unknowns (length room₂) → propagating a r ≡ call
         call_refused x e r er =
             ap₂ propagating e (sym (forgotten r room₂ er (long₂ ∙ long))) ∙ sym (call_is ∙ ap (λ (y : Propagated). settled room y room₂) e)
+
+-- the call by facts of the room as it came: with a value in it, with a literal that is not taken, and else by the pass
+module _ (ws gs : List ℤ) (allowance : ℕ) (room : List ℕ) where
+  pub some_value : all_unknown room ≡ false → propagating (Refused Given) room ≡ propagated ws gs allowance room
+  some_value e = call_some_value ws gs allowance room false (sym e) refl
+
+  module _ (e : all_unknown room ≡ true) where
+    pub not_taken : (given_rest gs room).held ≡ false → propagating (Refused Given) room ≡ propagated ws gs allowance room
+    unfolding propagated
+    not_taken h = rw (e, h) refl
+
+    pub pass_settled : (given_rest gs room).held ≡ true → propagated ws gs allowance room
+        ≡ settled room (passed allowance 0 ws (given_rest gs room).room).answer (passed allowance 0 ws (given_rest gs room).room).room
+    unfolding propagated
+    pass_settled h = rw (e, h) refl
+
+    pub stays_unknown : unknowns (length room) ≡ room
+    stays_unknown = sym (unknown_room room e)
+
+-- what `propagate` answers, test by test
+pub ruleset call_by_facts = (some_value, not_taken, pass_settled, stays_unknown)

@@ -116,3 +116,24 @@ other_value u b v wants e f = simp (eq-eqb u v e, ne_eqb b wants f)
 
 pub repeated : (u b v wants : ℕ) → u ≡ v → b ≡ wants → Sets u b ≡ with_unknown (Sets u b) v wants
 repeated u b v wants e f = simp (eq-eqb u v e, eq-eqb b wants f)
+
+-- an unknown literal, by the verdict so far, as the code finds them
+module _ (d : Verdict) (v wants value : ℕ) (f : value ≡ wants → ⊥) (h : 2 ≤ value) where
+  pub first_sets : d ≡ AllFalse → Sets v wants ≡ with_literal d v wants value
+  first_sets q = with_unknown_is d v wants value f h AllFalse q
+
+  pub passes_on : d ≡ Passes → Passes ≡ with_literal d v wants value
+  passes_on q = with_unknown_is d v wants value f h Passes q
+
+  module _ (u b : ℕ) (q : d ≡ Sets u b) where
+    pub two_variables : (u ≡ v → ⊥) → Passes ≡ with_literal d v wants value
+    two_variables n = other_variable u b v wants n ∙ with_unknown_is d v wants value f h (Sets u b) q
+
+    pub both_signs : u ≡ v → (b ≡ wants → ⊥) → Passes ≡ with_literal d v wants value
+    both_signs e n = other_value u b v wants e n ∙ with_unknown_is d v wants value f h (Sets u b) q
+
+    pub once_more : u ≡ v → b ≡ wants → Sets u b ≡ with_literal d v wants value
+    once_more e n = repeated u b v wants e n ∙ with_unknown_is d v wants value f h (Sets u b) q
+
+-- what `with_literal` makes of a literal, case by case
+pub ruleset one_literal_more = (with_true, with_false, first_sets, passes_on, two_variables, both_signs, once_more)

@@ -73,6 +73,7 @@ fn wanted(w: i32) -> u8
 // ---- a clause
 
 // The verdict with one literal more: of a variable whose value is given, true where that is the one wanted.
+#[tactic(auto, using(crate::proofs::Scan::one_literal_more))]
 fn with_literal(sofar: Verdict, variable: usize, wanted: u8, value: u8) -> Verdict
     ensures { result ≡ with_literal sofar variable wanted value }
 {
@@ -175,6 +176,7 @@ fn pass(words: &[i32], allowance: u64, values: &mut [u8]) -> Propagated
 // ---- the call
 
 // Whether every byte is 2.
+#[tactic(auto, using(crate::proofs::Giving::looking_finds_left))]
 fn all_unknown(values: &[u8]) -> bool
     ensures { result ≡ all_unknown values.now }
 {
@@ -199,6 +201,7 @@ fn forget(values: &mut [u8])
 }
 
 // Takes the literals as true, up to one that cannot be taken.
+#[tactic(auto, using(crate::proofs::Giving::giving_before_left))]
 fn give(given: &[i32], values: &mut [u8]) -> bool
     ensures value { result ≡ (given_rest given.now values.old).held }
     ensures values_after { values.new ≡ (given_rest given.now values.old).room }
@@ -223,6 +226,7 @@ fn give(given: &[i32], values: &mut [u8]) -> bool
 }
 
 // The words, the literals that hold, the allowance of clauses and the value room, one byte for each variable: 0 false, 1 true, 2 unknown.
+#[tactic(auto, using(crate::proofs::Giving::call_by_facts))]
 pub fn propagate(words: &[i32], given: &[i32], allowance: u64, values: &mut [u8]) -> Propagated
     ensures { propagating result values.new
         ≡ propagated words.now given.now allowance values.old }

@@ -9,7 +9,7 @@ use mir.ValLaws.{to_z-of_z}
 use Rattle.cnf.specs.Words.{named}
 use Rattle.propagate.specs.Clause.{wanted}
 use Rattle.propagate.specs.Pass.{Held}
-use Rattle.propagate.proofs.Giving.{giving_begins, giving_ends, giving_zero, giving_above, giving_before, giving_on}
+use Rattle.propagate.proofs.Giving.{giving_begins, giving_ends, giving_zero, giving_above, giving_on}
 use Rattle.propagate.proofs.give.Goals as goal
 
 pub loop-i-init : goal.loop-i-init
@@ -37,17 +37,6 @@ returns-then-v-values c =
     (c.named-v.ensures.0 ∙ ap named f) c.if-v-eq0.false c.if-v-values.true in
     record { value = sym (ap (λ (o : Held). o.held) e); values_after = sym (ap (λ (o : Held). o.room) e) }
 
-pub returns-then-values-v-lt2 : goal.returns-then-values-v-lt2
-returns-then-values-v-lt2 c =
-    let l = c.loop-i in
-    let a = c.args in
-    let z = get_or a.given.now l.i (pos 0) in
-    let f = to_z-of_z w32 z (record { sfits = search rules }) in
-    let e =
-    giving_before a.given.now a.values.now l.values l.i l.invariant z (omega arith) refl c.named-v.result
-    (c.named-v.ensures.0 ∙ ap named f) c.if-v-eq0.false c.if-v-values.false c.if-values-v-lt2.true in
-    record { value = sym (ap (λ (o : Held). o.held) e); values_after = sym (ap (λ (o : Held). o.room) e) }
-
 pub loop-i-preserved : goal.loop-i-preserved
 loop-i-preserved c =
     let l = c.loop-i in
@@ -55,7 +44,7 @@ loop-i-preserved c =
     let z = get_or a.given.now l.i (pos 0) in
     let f = to_z-of_z w32 z (record { sfits = search rules }) in
     giving_on a.given.now a.values.now l.values l.i l.invariant z (omega arith) refl c.named-v.result
-    (c.named-v.ensures.0 ∙ ap named f) c.if-v-eq0.false c.if-v-values.false c.if-values-v-lt2.false
+    (c.named-v.ensures.0 ∙ ap named f) c.if-v-eq0.false c.if-v-values.false (omega arith)
     c.wanted.result (c.wanted.ensures.0 ∙ ap wanted f)
 
 pub returns : goal.returns
