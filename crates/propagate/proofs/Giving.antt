@@ -85,12 +85,8 @@ pub giving_before_left : (gs : List ℤ) (room : List ℕ) (i : ℕ) → i < len
 giving_before_left gs room i h f l k =
     let e = drop-cons gs i (pos 0) h in
     giving_before (drop i gs) room room 0 (giving_begins (drop i gs) room) (get_or gs i (pos 0))
-<<<<<<< HEAD
-    (omega (arith, ap (λ (x : List ℤ). length x) e)) (sym (ap (λ (x : List ℤ). get_or x 0 (pos 0)) e)) (named (get_or gs i (pos 0))) refl f l k
-=======
     (omega (arith, ap (λ (x : List ℤ). length x) e)) (sym (ap (λ (x : List ℤ). get_or x 0 (pos 0)) e))
     (named (get_or gs i (pos 0))) refl f l k
->>>>>>> 5b5c5ce2a19e11016b02413638de9e2dbcec5a1b
 
 -- ---- a room without a value
 
