@@ -3,97 +3,55 @@
 
 #![tactic(auto)]
 
-ghost use Rattle.std.specs.Prelude.{◌≡◌, ◌≤◌, ◌<◌, ◌^◌, length, IfOk};
+ghost use Rattle.std.specs.Prelude.{◌≡◌, ◌<◌, ◌^◌, ◌++◌};
 ghost use Rattle.compare_checks.specs.Record.{constant_of, told_of};
 
-use line::{Told, magnitude};
-use std::io;
-use std::io::{ErrorKind, Read, Write};
+use line::Told;
+use records::{MOST_RECORDS, to_the_end};
+use std::io::{self, Read, Write};
 
-// More than any input has: the loop has to end.
-const MOST_RECORDS: u64 = 1_000_000_000;
-
-fn wide(b: u8) -> u64
-    ensures { (result ≡ b) × (result < 256) }
+// The constant of the record that begins with these bytes.
+fn constant(front: [u8; 5]) -> u64
+    ensures { (result ≡ constant_of front) × (result < 2 ^ 32) }
 {
-    b as u64
+    let [c3, c2, c1, c0, _] = front;
+    u64::from(u32::from_be_bytes([c3, c2, c1, c0]))
 }
 
-// The constant of a record.
-fn constant(bytes: &[u8]) -> u64
-    requires { 5 ≤ length bytes.now }
-    ensures { (result ≡ constant_of bytes.now) × (result < 2 ^ 32) }
+// The answer to the record that begins with these bytes and goes on with this recipe.
+#[tactic(auto, using(crate::proofs::Records::told_in_parts))]
+fn answer(front: [u8; 5], recipe: &[u8]) -> Told
+    ensures { result ≡ told_of (front ++ recipe.now) }
 {
-    ((wide(bytes[0]) * 256 + wide(bytes[1])) * 256 + wide(bytes[2])) * 256 + wide(bytes[3])
+    line::told_of(&recipe::check(constant(front), recipe))
 }
 
-// The answer to a record.
-fn answer(bytes: &[u8]) -> Told
-    requires { 5 ≤ length bytes.now }
-    ensures { result ≡ told_of bytes.now }
-{
-    let c = constant(bytes);
-    recipe::check(c, &bytes[5..]).told()
-}
-
-fn print_signed<W: Write>(out: &mut W, z: i64) -> io::Result<()> {
-    if z < 0 {
-        out.write_all(b"-")?;
-    }
-    let m = magnitude(z);
-    write!(out, "{m}")
-}
-
-// Success tells three zeros, which go out by one call of the system in place of six.
+// Success tells three zeros, which go out by one call of the system in place of six. `compare_writes` prints the same with a blank behind:
+// a function of both would need a crate of its own, which is no plainer.
 fn print_line<W: Write>(out: &mut W, told: Told) -> io::Result<()> {
-    if told.number == 0 {
+    let Told {
+        number,
+        line,
+        value,
+    } = told;
+    if number == 0 {
         return out.write_all(b"0 0 0\n");
     }
-    let number = told.number;
-    let line = told.line;
-    write!(out, "{number} {line} ")?;
-    print_signed(out, told.value)?;
-    out.write_all(b"\n")
+    writeln!(out, "{number} {line} {value}")
 }
 
-// Fills a room from its front; false where the input ends before.
-fn filled<R: Read>(input: &mut R, room: &mut [u8]) -> io::Result<bool> {
-    match input.read_exact(room) {
-        Ok(()) => Ok(true),
-        Err(e) => {
-            if e.kind() == ErrorKind::UnexpectedEof {
-                return Ok(false);
-            }
-            Err(e)
-        }
+fn answer_all<R: Read, W: Write>(input: &mut R, out: &mut W) -> io::Result<()> {
+    let mut front = [0; 5];
+    let mut room = [0; 255];
+    for _ in 0..MOST_RECORDS {
+        input.read_exact(&mut front)?;
+        let recipe = &mut room[..usize::from(front[4])];
+        input.read_exact(recipe)?;
+        print_line(out, answer(front, recipe))?;
     }
-}
-
-// The next record, at the front of the room, and its length; 0 where there is none.
-fn read_record<R: Read>(input: &mut R, room: &mut [u8]) -> io::Result<usize>
-    requires { length room.old ≡ 260 }
-    ensures { IfOk result (λ n. n ≤ 260) }
-{
-    if !filled(input, &mut room[..5])? {
-        return Ok(0);
-    }
-    let e = 5 + wide(room[4]) as usize;
-    if !filled(input, &mut room[5..e])? {
-        return Ok(0);
-    }
-    Ok(e)
+    Ok(())
 }
 
 fn main(rt: HostRuntime) -> io::Result<()> {
-    let mut input = rt.stdin();
-    let mut out = rt.stdout();
-    let mut room = [0u8; 260];
-    for _ in 0..MOST_RECORDS {
-        let n = read_record(&mut input, &mut room)?;
-        if n < 5 {
-            break;
-        }
-        print_line(&mut out, answer(&room[..n]))?;
-    }
-    Ok(())
+    to_the_end(answer_all(&mut rt.stdin(), &mut rt.stdout()))
 }

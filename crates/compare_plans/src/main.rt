@@ -4,107 +4,68 @@
 
 #![tactic(auto)]
 
-ghost use Rattle.std.specs.Prelude.{◌≡◌, ◌<◌, length};
+use line::Refusal;
+use records::{MOST_RECORDS, checksum, to_the_end};
+use std::io::{self, Read, Write};
 
-use plan::Planned;
-use std::io;
-use std::io::{ErrorKind, Read, Write};
+// A room that comes with this in each byte shows which bytes were touched.
+const UNTOUCHED: u8 = 7;
 
-// More than any input has: the loop has to end.
-const MOST_RECORDS: u64 = 1_000_000_000;
-
-fn work_room() -> [u8; 65536]
-    ensures { 65536 ≡ length result }
-{
-    [7; 65536]
+// The constant, the lengths of both rooms, and whether the work room is shown.
+#[derive(Clone, Copy)]
+struct Record {
+    c: u32,
+    work: u16,
+    recipe: u8,
+    shown: bool,
 }
 
-fn wide(b: u8) -> u64
-    ensures { (result ≡ b) × (result < 256) }
-{
-    b as u64
-}
-
-fn fill(room: &mut [u8]) {
-    for b in room.iter_mut() {
-        *b = 7;
+impl From<[u8; 8]> for Record {
+    fn from(bytes: [u8; 8]) -> Record {
+        let [c3, c2, c1, c0, w1, w0, recipe, shown] = bytes;
+        Record {
+            c: u32::from_be_bytes([c3, c2, c1, c0]),
+            work: u16::from_be_bytes([w1, w0]),
+            recipe,
+            shown: shown == 1,
+        }
     }
-}
-
-// The checksum h, with the bytes of a room behind it.
-fn checksum(h: u64, room: &[u8]) -> u64 {
-    let mut sum = h % 4294967296;
-    for b in room {
-        sum = (sum * 31 + wide(*b)) % 4294967296;
-    }
-    sum
 }
 
 // Six bytes: the answer and the checksum.
-fn told(answer: Planned, sum: u64) -> [u8; 6] {
-    [
-        (answer.number() % 256) as u8,
-        (answer.lines() % 256) as u8,
-        (sum / 16777216 % 256) as u8,
-        (sum / 65536 % 256) as u8,
-        (sum / 256 % 256) as u8,
-        (sum % 256) as u8,
-    ]
+fn told(answer: Result<usize, Refusal>, sum: u32) -> [u8; 6] {
+    let [s3, s2, s1, s0] = sum.to_be_bytes();
+    // To a narrower type there is no From.
+    let number = (line::number_of(&answer) % 256) as u8;
+    let lines = (plan::lines_of(answer) % 256) as u8;
+    [number, lines, s3, s2, s1, s0]
 }
 
 // One call, in the rooms that are lent.
-fn answer(record: &[u8; 8], work: &mut [u8], recipe: &mut [u8]) -> [u8; 6] {
-    let c = ((wide(record[0]) * 256 + wide(record[1])) * 256 + wide(record[2])) * 256
-        + wide(record[3]);
-    fill(work);
-    fill(recipe);
-    let r = plan::plan(c, work, recipe);
-    told(r, checksum(checksum(0, work), recipe))
+fn answer(c: u32, work: &mut [u8], recipe: &mut [u8]) -> [u8; 6] {
+    work.fill(UNTOUCHED);
+    recipe.fill(UNTOUCHED);
+    let planned = plan::plan(u64::from(c), work, recipe);
+    told(planned, checksum(checksum(0, work), recipe))
 }
 
-// Answers a record, and shows the work room if that is asked.
-fn serve<W: Write>(
-    out: &mut W,
-    record: &[u8; 8],
-    work: &mut [u8],
-    recipe: &mut [u8],
-) -> io::Result<()>
-    requires { (length work.old ≡ 65536) × (length recipe.old ≡ 256) }
-{
-    let n = (wide(record[4]) * 256 + wide(record[5])) as usize;
-    let m = wide(record[6]) as usize;
-    let bytes = answer(record, &mut work[..n], &mut recipe[..m]);
-    out.write_all(&bytes)?;
-    if record[7] == 1 {
-        out.write_all(&work[..n])?;
-    }
-    Ok(())
-}
-
-// Fills a room from its front; false where the input ends before.
-fn filled<R: Read>(input: &mut R, room: &mut [u8]) -> io::Result<bool> {
-    match input.read_exact(room) {
-        Ok(()) => Ok(true),
-        Err(e) => {
-            if e.kind() == ErrorKind::UnexpectedEof {
-                return Ok(false);
-            }
-            Err(e)
+fn answer_all<R: Read, W: Write>(input: &mut R, out: &mut W) -> io::Result<()> {
+    let mut bytes = [0; 8];
+    let mut work = [0; 65535];
+    let mut recipe = [0; 255];
+    for _ in 0..MOST_RECORDS {
+        input.read_exact(&mut bytes)?;
+        let record = Record::from(bytes);
+        let work = &mut work[..usize::from(record.work)];
+        let recipe = &mut recipe[..usize::from(record.recipe)];
+        out.write_all(&answer(record.c, work, recipe))?;
+        if record.shown {
+            out.write_all(work)?;
         }
     }
+    Ok(())
 }
 
 fn main(rt: HostRuntime) -> io::Result<()> {
-    let mut input = rt.stdin();
-    let mut out = rt.stdout();
-    let mut record = [0u8; 8];
-    let mut work = work_room();
-    let mut recipe = [0u8; 256];
-    for _ in 0..MOST_RECORDS {
-        if !filled(&mut input, &mut record)? {
-            break;
-        }
-        serve(&mut out, &record, &mut work, &mut recipe)?;
-    }
-    Ok(())
+    to_the_end(answer_all(&mut rt.stdin(), &mut rt.stdout()))
 }

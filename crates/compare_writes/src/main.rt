@@ -6,264 +6,163 @@
 
 #![tactic(auto)]
 
-ghost use Rattle.std.specs.Prelude.{◌≡◌, ◌+◌, ◌*◌, ◌<◌, ◌≤◌, ◌^◌, length, IfOk};
-ghost use Rattle.compare_writes.specs.Rooms.{Rooms};
-
-use cnf::named;
-use line::{Told, magnitude};
-use product::Written;
+use line::{Refusal, Told};
+use product::Counts;
+use records::{checksum, read_full, to_the_end};
 use std::io::{self, Read, Write};
 
-fn clause_room() -> [i32; 65535]
-    ensures { 65535 ≡ length result }
-{
-    [0; 65535]
+// A room that comes with this in each entry shows which entries were touched.
+const UNTOUCHED: i32 = 7;
+
+// Document 01's call, or that over given literals, with its first free number.
+#[derive(Clone, Copy)]
+enum Call {
+    Plain,
+    Given { first: u32 },
 }
 
-// A room that comes with a 7 in each entry shows which entries were touched.
-fn fill(room: &mut [i32]) {
-    for entry in room.iter_mut() {
-        *entry = 7;
+// The fifteen bytes that a record begins with: the numbers of the call, and the lengths of its rooms.
+#[derive(Clone, Copy)]
+struct Head {
+    call: Call,
+    c: u32,
+    w: u8,
+    literals: u8,
+    recipe: u8,
+    bits: u8,
+    clauses: u16,
+}
+
+impl Head {
+    fn written(
+        self,
+        x: &[i32],
+        recipe: &[u8],
+        bits: &mut [i32],
+        clauses: &mut [i32],
+    ) -> Result<Counts, Refusal> {
+        let (c, w) = (u64::from(self.c), u32::from(self.w));
+        match self.call {
+            Call::Plain => write::write_plain(c, w, recipe, bits, clauses),
+            Call::Given { first } => write::write(c, w, x, first, recipe, bits, clauses),
+        }
     }
 }
 
-// The word as a number without sign.
-fn unsigned(z: i32) -> u64
-    ensures { result ≤ 2 ^ 32 }
-{
-    let m = named(z);
-    if z < 0 { 4294967296 - m } else { m }
-}
-
-fn summed(h: u64, room: &[i32]) -> u64
-    requires { h < 2 ^ 32 }
-    ensures { result < 2 ^ 32 }
-{
-    let mut sum = h;
-    for z in room {
-        sum = (sum * 31 + unsigned(*z)) % 4294967296;
+impl From<[u8; 15]> for Head {
+    fn from(bytes: [u8; 15]) -> Head {
+        let [
+            call,
+            c3,
+            c2,
+            c1,
+            c0,
+            w,
+            literals,
+            f3,
+            f2,
+            f1,
+            f0,
+            recipe,
+            bits,
+            k1,
+            k0,
+        ] = bytes;
+        Head {
+            call: match call {
+                0 => Call::Plain,
+                _ => Call::Given {
+                    first: u32::from_be_bytes([f3, f2, f1, f0]),
+                },
+            },
+            c: u32::from_be_bytes([c3, c2, c1, c0]),
+            w,
+            literals,
+            recipe,
+            bits,
+            clauses: u16::from_be_bytes([k1, k0]),
+        }
     }
-    sum
 }
 
-// A number and a blank.
-fn print_number<W: Write>(out: &mut W, n: u64) -> io::Result<()> {
-    write!(out, "{n} ")
+// What a record is lent: room for its literals and their bytes, and for its recipe, and the rooms of its call.
+struct Rooms<'a> {
+    bytes: &'a mut [u8],
+    x: &'a mut [i32],
+    recipe: &'a mut [u8],
+    bits: &'a mut [i32],
+    clauses: &'a mut [i32],
 }
 
-fn print_signed<W: Write>(out: &mut W, z: i64) -> io::Result<()> {
-    if z < 0 {
-        out.write_all(b"-")?;
+impl Rooms<'_> {
+    // Reads the literals and the recipe, and answers. Where the input ends before, the rooms keep what they held.
+    fn answer<R: Read, W: Write>(self, input: &mut R, out: &mut W, head: Head) -> io::Result<()> {
+        let Rooms {
+            bytes,
+            x,
+            recipe,
+            bits,
+            clauses,
+        } = self;
+        read_full(input, bytes)?;
+        read_literals(bytes, x);
+        read_full(input, recipe)?;
+        bits.fill(UNTOUCHED);
+        clauses.fill(UNTOUCHED);
+        let done = head.written(x, recipe, bits, clauses);
+        show(out, done, checksum(checksum(0, bits), clauses))
     }
-    print_number(out, magnitude(z))
 }
 
-// Success tells three zeros, which go out at once: most calls succeed.
+// The literals that stand in the bytes, four for each. `compare_passes` adds 2^31: a function of both, told what to add, would be as long.
+fn read_literals(bytes: &[u8], x: &mut [i32]) {
+    for (literal, word) in x.iter_mut().zip(bytes.as_chunks().0) {
+        *literal = i32::from_be_bytes(*word);
+    }
+}
+
+// Success tells three zeros, which go out at once: most calls succeed. (As in `compare_checks`, which ends the line here.)
 fn print_told<W: Write>(out: &mut W, told: Told) -> io::Result<()> {
-    if told.number == 0 {
+    let Told {
+        number,
+        line,
+        value,
+    } = told;
+    if number == 0 {
         return out.write_all(b"0 0 0 ");
     }
-    print_number(out, told.number)?;
-    print_number(out, told.line as u64)?;
-    print_signed(out, told.value)
+    write!(out, "{number} {line} {value} ")
 }
 
-fn show<W: Write>(out: &mut W, done: Written, sum: u64) -> io::Result<()> {
-    print_told(out, done.told())?;
-    let n = done.counts();
-    print_number(out, n.words as u64)?;
-    print_number(out, n.clauses as u64)?;
-    print_number(out, n.next as u64)?;
-    print_number(out, n.bits as u64)?;
-    writeln!(out, "{sum}")
-}
-
-// Document 01's call, or that over given literals.
-fn written(
-    call: u64,
-    c: u64,
-    w: u32,
-    x: &[i32],
-    first: u32,
-    recipe: &[u8],
-    bits: &mut [i32],
-    clauses: &mut [i32],
-) -> Written {
-    if call == 0 {
-        return write::write_plain(c, w, recipe, bits, clauses);
-    }
-    write::write(c, w, x, first, recipe, bits, clauses)
-}
-
-fn byte(head: &[u8], i: usize) -> u64
-    requires { i < length head.now }
-    ensures { result < 256 }
-{
-    head[i] as u64
-}
-
-// The number that two bytes are, most significant first.
-fn two_bytes(head: &[u8], i: usize) -> u64
-    requires { i + 1 < length head.now }
-    ensures { result < 65536 }
-{
-    byte(head, i) * 256 + byte(head, i + 1)
-}
-
-fn four_bytes(head: &[u8], i: usize) -> u64
-    requires { i + 3 < length head.now }
-    ensures { result < 2 ^ 32 }
-{
-    two_bytes(head, i) * 65536 + two_bytes(head, i + 2)
-}
-
-// The word of a number without sign.
-fn signed(m: u64) -> i32
-    requires { m < 2 ^ 32 }
-{
-    if m < 2147483648 {
-        return m as i32;
-    }
-    (m as i64 - 4294967296) as i32
-}
-
-// The literals that stand in the bytes.
-fn literals(bytes: &[u8], x: &mut [i32])
-    requires { (length bytes.now ≡ 4 * length x.old) × (length x.old ≤ 255) }
-{
-    for j in 0..x.len() {
-        x[j] = signed(four_bytes(bytes, 4 * j));
-    }
-}
-
-// Puts what the input has into the room, from the front on, until the room is full or the input ends; how many bytes that were.
-fn read_full<R: Read>(input: &mut R, bytes: &mut [u8]) -> io::Result<usize> {
-    let mut done = 0;
-    while done < bytes.len() {
-        let n = input.read(&mut bytes[done..])?;
-        if n == 0 {
-            break;
-        }
-        done += n;
-    }
-    Ok(done)
-}
-
-// Reads the literals and the recipe, and answers.
-fn answer<R: Read, W: Write>(
-    input: &mut R,
-    out: &mut W,
-    call: u64,
-    c: u64,
-    w: u32,
-    first: u32,
-    bytes: &mut [u8],
-    x: &mut [i32],
-    recipe: &mut [u8],
-    bits: &mut [i32],
-    clauses: &mut [i32],
-) -> io::Result<()>
-    requires { (length bytes.old ≡ 4 * length x.old) × (length x.old ≤ 255) }
-{
-    read_full(input, bytes)?;
-    literals(bytes, x);
-    read_full(input, recipe)?;
-    fill(bits);
-    fill(clauses);
-    let done = written(call, c, w, x, first, recipe, bits, clauses);
-    let h = summed(0, bits);
-    show(out, done, summed(h, clauses))
-}
-
-// Answers the record that begins with fifteen bytes.
-fn record<R: Read, W: Write>(
-    input: &mut R,
-    out: &mut W,
-    head: &[u8],
-    bytes: &mut [u8],
-    x: &mut [i32],
-    recipe: &mut [u8],
-    bits: &mut [i32],
-    clauses: &mut [i32],
-) -> io::Result<()>
-    requires in_bounds { 15 ≤ length head.now }
-    requires rooms { Rooms (length bytes.old) (length x.old) (length recipe.old) (length bits.old) (length clauses.old) }
-{
-    let n = byte(head, 6) as usize;
-    let r = byte(head, 11) as usize;
-    let b = byte(head, 12) as usize;
-    let k = two_bytes(head, 13) as usize;
-    answer(
-        input,
-        out,
-        byte(head, 0),
-        four_bytes(head, 1),
-        byte(head, 5) as u32,
-        four_bytes(head, 7) as u32,
-        &mut bytes[..4 * n],
-        &mut x[..n],
-        &mut recipe[..r],
-        &mut bits[..b],
-        &mut clauses[..k],
-    )
-}
-
-// One record; one less is left, or none where the input ends.
-fn step<R: Read, W: Write>(
-    input: &mut R,
-    out: &mut W,
-    left: u64,
-    bytes: &mut [u8],
-    x: &mut [i32],
-    recipe: &mut [u8],
-    bits: &mut [i32],
-    clauses: &mut [i32],
-) -> io::Result<u64>
-    requires left_nonzero { 0 < left }
-    requires rooms { Rooms (length bytes.old) (length x.old) (length recipe.old) (length bits.old) (length clauses.old) }
-    ensures { IfOk result (λ n. n < left) }
-{
-    let mut head = [0u8; 15];
-    let got = read_full(input, &mut head)?;
-    if got < 15 {
-        return Ok(0);
-    }
-    record(input, out, &head, bytes, x, recipe, bits, clauses)?;
-    Ok(left - 1)
+fn show<W: Write>(out: &mut W, done: Result<Counts, Refusal>, sum: u32) -> io::Result<()> {
+    print_told(out, line::told_of(&done))?;
+    let n = product::counts_of(done);
+    writeln!(out, "{} {} {} {} {sum}", n.words, n.clauses, n.next, n.bits)
 }
 
 // As many records as a 64-bit number counts.
-fn run<R: Read, W: Write>(
-    input: &mut R,
-    out: &mut W,
-    bytes: &mut [u8],
-    x: &mut [i32],
-    recipe: &mut [u8],
-    bits: &mut [i32],
-    clauses: &mut [i32],
-) -> io::Result<()>
-    requires { Rooms (length bytes.old) (length x.old) (length recipe.old) (length bits.old) (length clauses.old) }
-{
-    let mut left: u64 = 18446744073709551615;
-    while 0 < left {
-        left = step(input, out, left, bytes, x, recipe, bits, clauses)?;
+fn answer_all<R: Read, W: Write>(input: &mut R, out: &mut W) -> io::Result<()> {
+    let mut front = [0; 15];
+    let mut bytes = [0; 1020];
+    let mut x = [0; 255];
+    let mut recipe = [0; 255];
+    let mut bits = [0; 255];
+    let mut clauses = [0; 65535];
+    for _ in 0..u64::MAX {
+        input.read_exact(&mut front)?;
+        let head = Head::from(front);
+        let rooms = Rooms {
+            bytes: &mut bytes[..4 * usize::from(head.literals)],
+            x: &mut x[..usize::from(head.literals)],
+            recipe: &mut recipe[..usize::from(head.recipe)],
+            bits: &mut bits[..usize::from(head.bits)],
+            clauses: &mut clauses[..usize::from(head.clauses)],
+        };
+        rooms.answer(input, out, head)?;
     }
     Ok(())
 }
 
 fn main(rt: HostRuntime) -> io::Result<()> {
-    let mut bytes = [0; 1020];
-    let mut x = [0; 255];
-    let mut recipe = [0; 255];
-    let mut bits = [0; 255];
-    let mut clauses = clause_room();
-    run(
-        &mut rt.stdin(),
-        &mut rt.stdout(),
-        &mut bytes,
-        &mut x,
-        &mut recipe,
-        &mut bits,
-        &mut clauses,
-    )
+    to_the_end(answer_all(&mut rt.stdin(), &mut rt.stdout()))
 }

@@ -1,29 +1,34 @@
--- A number's digits at a place: a digit alone, or the digits of n / 10 and the last one behind them. Assumes nothing.
-use mathlib.Core.Path.{◌≡◌, ap, ap₂, ◌∙◌, sym}
-use mathlib.Core.List.{List, [], ◌∷◌}
-use Prim.Native.Nat.{ℕ, ◌+◌, ◌/◌, ◌%◌, ◌≤◌, ◌<◌}
-use lib.ListN.{length, set, length-append}
-use lib.Seq.{sets}
-use Rattle.line.proofs.Room.{sets_append}
-use Rattle.wording.specs.Decimal.{decimal}
-use Rattle.wording.proofs.Decimal.{decimal_one, decimal_more}
+-- A number's digits are those that the library prints. Assumes nothing.
+use mathlib.Core.Path.{◌≡◌, ap, sym, ◌∙◌}
+use mathlib.Core.List.{List, ◌∷◌}
+use Prim.Native.Nat.{ℕ, suc, ◌^◌, ◌<◌}
+use native.Mathlib.Omega.{arith}
+use lib.IntN.{ℤ, pos, negsuc}
+use lib.Signed.{mag}
+use mir.Syntax.{w32}
+use mir.Val.{SFits, to_z, of_z}
+use mir.ValLaws.{to_z-of_z}
+use Rattle.std.specs.Fmt as printed
+use Rattle.std.proofs.lemmas.Fmt.{length-decimal-le, decimal_from_appends}
+use Rattle.wording.specs.Decimal.{decimal, signed_decimal}
+use Rattle.wording.proofs.Decimal.{decimal_one, decimal_more, decimal_short, signed_short}
 
--- how many there are
-pub digits_one : (n : ℕ) → n < 10 → length (decimal n) ≡ 1
-digits_one n h = ap length (decimal_one n h)
+pub same_decimal : (n : ℕ) → n < 2 ^ 64 → printed.decimal n ≡ decimal n
+same_decimal n h =
+    sym (decimal_from_appends (λ (k : ℕ) (m : ℕ). decimal m)
+    (record { one = λ k m l. decimal_one m l; more = λ k m l. decimal_more m l }) 20 n h
+    (length-decimal-le 20 n (omega arith) (omega arith) h))
 
-pub digits_more : (n : ℕ) → 10 ≤ n → length (decimal n) ≡ length (decimal (n / 10)) + 1
-digits_more n h = ap length (decimal_more n h) ∙ length-append (decimal (n / 10)) ((48 + n % 10) ∷ [])
+signed_digits : (z : ℤ) → mag z < 2 ^ 31 → printed.signed_decimal z ≡ signed_decimal z
+unfolding signed_decimal
+signed_digits (pos n) h = same_decimal n (omega arith)
+signed_digits (negsuc n) h = ap (λ (l : List ℕ). 45 ∷ l) (same_decimal (suc n) (omega arith))
 
--- the room with them
-pub room_one : (s : List ℕ) (at n : ℕ) → n < 10 → sets s at (decimal n) ≡ set s at (48 + n)
-room_one s at n h = ap (sets s at) (decimal_one n h)
+-- of a number as the machine holds it
+pub same_signed : (z : ℤ) → SFits w32 z → printed.signed_decimal (to_z w32 (of_z w32 z)) ≡ signed_decimal z
+same_signed z h = ap printed.signed_decimal (to_z-of_z w32 z h) ∙ signed_digits z h.sfits
 
-pub room_more : (s t : List ℕ) (at p n : ℕ) → 10 ≤ n → t ≡ sets s at (decimal (n / 10)) → p ≡ at + length (decimal (n / 10))
-    → sets s at (decimal n) ≡ set t p (48 + n % 10)
-room_more s t at p n h e f =
-    ap (sets s at) (decimal_more n h)
-    ∙ sym (ap₂ (λ (l : List ℕ) (i : ℕ). sets l i ((48 + n % 10) ∷ [])) e f ∙ sets_append (decimal (n / 10)) ((48 + n % 10) ∷ []) s at)
+-- how long a number is
+pub ruleset decimals = (same_decimal, decimal_short)
 
--- what `put_decimal` puts
-pub ruleset put_digits = (digits_one, digits_more, room_one, room_more)
+pub ruleset signs = (same_signed, signed_short)

@@ -1,28 +1,40 @@
--- Writes at a place, one behind the other: together they are one write. Assumes nothing.
+-- Writes into a room, one behind the other: together they are one write. Assumes nothing.
 use mathlib.Core.Path.{◌≡◌, refl, ap, ap₂, ◌∙◌, sym}
-use mathlib.Core.List.{List, [], ◌∷◌, ◌++◌}
-use Prim.Native.Nat.{ℕ, ◌+◌, ◌≤◌, ◌<◌}
+use mathlib.Core.List.{List, [], ◌++◌}
+use Prim.Native.Nat.{ℕ, ◌+◌, ◌≤◌}
 use native.Mathlib.Nat.{add-zero}
 use native.Mathlib.Omega.{arith}
-use lib.ListN.{length, set, length-append}
-use lib.Seq.{sets, length-sets}
+use lib.ListN.{length, length-append, take, drop}
+use lib.Seq.{sets, sets-eq}
+use borrow.Rule.Slice.PartMut.{put_mid}
+use Rattle.std.proofs.Common.{append_assoc}
+use Rattle.std.proofs.lemmas.List.{drop-drop}
 use Rattle.line.proofs.Room.{sets_append}
-use Rattle.dimacs.specs.Put.{Put}
+use Rattle.dimacs.specs.declared.put.Out.{Out}
+use Rattle.dimacs.specs.Puts.{Puts}
+
+-- bytes that were copied into a part of the room
+pub copied : (s b : List ℕ) (a k : ℕ) → k ≡ length b → a + k ≤ length s → put_mid a k s b ≡ sets s a b
+copied s b a k e h =
+    rw e (ap (λ r. take a s ++ (b ++ r)) (drop-drop (length b) a s)
+    ∙ sym (sets-eq b s a (omega arith) ∙ append_assoc (take a s) b (drop (a + length b) s)))
 
 -- nothing was written
-pub put_none : (s : List ℕ) (at : ℕ) → at ≤ length s → Put s s at at []
-put_none s at h = record { ends = sym (add-zero at); room = refl; fits = h }
-
--- one byte was stored
-pub put_one : (s : List ℕ) (at b : ℕ) → at < length s → Put s (set s at b) at (at + 1) (b ∷ [])
-put_one s at b h = record { ends = refl; room = refl; fits = omega arith }
+pub puts_none : (s : Out) → s.at ≤ length s.room.now → Puts s s []
+puts_none s h = record {
+  same_room = refl;
+  same_length = refl;
+  put = record { ends = sym (add-zero s.at); room = refl; fits = h };
+}
 
 -- a write behind a write is a write of both
-pub put_two : {s t u b c : List ℕ} {at p q : ℕ} → Put s t at p b → Put t u p q c → Put s u at q (b ++ c)
-put_two {s} {t} {u} {b} {c} {at} {p} {q} x y =
-    let l : length t ≡ length s = ap length x.room ∙ length-sets s at b in
-    record {
-      ends = simp length-append (omega (arith, x.ends, y.ends));
-      room = y.room ∙ ap₂ (λ (l : List ℕ) (n : ℕ). sets l n c) x.room x.ends ∙ sets_append b c s at;
-      fits = omega (arith, l, y.fits);
-    }
+pub puts_two : {s t u : Out} {b c : List ℕ} → Puts s t b → Puts t u c → Puts s u (b ++ c)
+puts_two {s} {t} {u} {b} {c} x y = record {
+  same_room = y.same_room ∙ x.same_room;
+  same_length = y.same_length ∙ x.same_length;
+  put = record {
+    ends = simp length-append (omega (arith, x.put.ends, y.put.ends));
+    room = y.put.room ∙ ap₂ (λ (l : List ℕ) (n : ℕ). sets l n c) x.put.room x.put.ends ∙ sets_append b c s.room.now s.at;
+    fits = omega (arith, x.same_length, y.put.fits);
+  };
+}

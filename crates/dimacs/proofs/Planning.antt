@@ -1,5 +1,6 @@
 -- The program's rooms are never too short for a planned recipe, so that refusals 3 to 12 do not come, and what is printed of planning's
 -- answer is document 01's file or the refusal 1 or 2. Assumes nothing.
+use Rattle.std.specs.Prelude.{Ok, Err, Some}
 use Prim.Native.Nat.{ℕ, suc, ◌+◌, ◌-◌, ◌*◌, ◌/◌, ◌^◌, ◌≤◌, ◌<◌}
 use mathlib.Core.Path.{◌≡◌, sym, ap, ◌∙◌, subst}
 use mathlib.Core.Bool.{true, false}
@@ -15,7 +16,6 @@ use Rattle.line.specs.Limits.{most_next, out_of_range, not_a_width}
 use Rattle.line.specs.Number.{bit_length, odd_part}
 use Rattle.line.specs.Refusal.{refusal_number}
 use Rattle.line.specs.declared.Refusal.TheVariants.{Constant, Width}
-use Rattle.line.specs.declared.Verdict.TheVariants.{Broken, Kept}
 use Rattle.line.proofs.Number.{bits_le, odd_part_le}
 use Rattle.line.proofs.Order.{first_hit, hits, within}
 use Rattle.recipe.specs.Accepted.{Right}
@@ -25,23 +25,21 @@ use Rattle.split.specs.Choose.{split_of}
 use Rattle.split.specs.Order.{recipe_for, lines_bytes}
 use Rattle.split.proofs.Sets.{bool}
 use Rattle.plan.specs.Plan.{Planning, odd_bits, plan_tests, planned, planning}
-use Rattle.plan.specs.declared.Planned.{Planned}
-use Rattle.plan.specs.declared.Planned.TheVariants.{Lines}
+use Rattle.plan.specs.Plan.{Planned}
 use Rattle.plan.proofs.Accepts.{planned_accepted, planned_bits, planned_lines_half}
 use Rattle.plan.proofs.Bytes.{bytes_length}
 use Rattle.plan.proofs.Plans.{Passed, by_verdict, passed_kept, recipe_in_room}
 use Rattle.product.specs.Lines.{columns}
 use Rattle.product.specs.Product.{plain_product_of, clause_words}
 use Rattle.product.specs.Write.{y_length, write_answer}
-use Rattle.product.specs.declared.Written.{Written}
+use Rattle.product.specs.Write.{Written}
 use Rattle.product.proofs.BitLengths.{columns_le}
 use Rattle.product.proofs.Success.{passes, passes_all}
 use Rattle.wording.specs.File.{refused_text}
 use Rattle.wording.specs.Print.{product_text, answered, printed_by, printed}
 use Rattle.wording.specs.Request.{asked}
-use Rattle.wording.specs.declared.Request.{Request}
+use Rattle.wording.specs.Request.{Request}
 use Rattle.dimacs.specs.Steps.{answer_text, recipe_text, PlannedFits, planned_text}
-use Rattle.wording.specs.declared.Request.TheVariants.{Asked}
 use Rattle.product.proofs.Bounds.{few_words, few_next}
 use Rattle.product.proofs.Given.{length_numbered, numbered_fit}
 use Rattle.product.specs.Bit.{numbered}
@@ -114,9 +112,9 @@ module _ (c : ℕ) (least : 1 ≤ c) (most : c ≤ 65535) where
   in_range : out_of_range c ≡ false
   in_range = rw (ne_eqb c 0 (λ z. omega arith), le-ltb 65535 c most)
 
-  recipe_printed : (w : ℕ) → recipe_text c w (planned_bytes c) ≡ answered split_of (Asked c w)
+  recipe_printed : (w : ℕ) → recipe_text c w (planned_bytes c) ≡ answered split_of (Some (c, w))
   recipe_printed w =
-      let refused : not_a_width w ≡ true → recipe_text c w (planned_bytes c) ≡ answered split_of (Asked c w) =
+      let refused : not_a_width w ≡ true → recipe_text c w (planned_bytes c) ≡ answered split_of (Some (c, w)) =
       λ e. rw (in_range, e) (width_printed c w (planned_bytes c) planned_small e) in
       elim (ℕ_discrete w 0) [
         | yes e ↦ refused (rw (eq-eqb w 0 e))
@@ -129,10 +127,10 @@ module _ (c : ℕ) (least : 1 ≤ c) (most : c ≤ 65535) where
 -- ---- planning's answer and the recipe room
 
 pub record Shows (c w : ℕ) (a : Planned) (recipe : List ℕ) : Type 0 where
-  pub text : planned_text a c w recipe ≡ answered split_of (Asked c w)
+  pub text : planned_text a c w recipe ≡ answered split_of (Some (c, w))
   pub fits : PlannedFits a program_recipe
 
-pub planned_fits_as : {a b : Planned} (room : ℕ) → a ≡ b → PlannedFits a room → PlannedFits b room
+planned_fits_as : {a b : Planned} (room : ℕ) → a ≡ b → PlannedFits a room → PlannedFits b room
 planned_fits_as room e f = subst (λ (a : Planned). PlannedFits a room) e f
 
 module _ (c w : ℕ) (work recipe : List ℕ) (hw : length work ≡ program_work) (hr : length recipe ≡ program_recipe) (a : Planned)
@@ -146,8 +144,8 @@ module _ (c w : ℕ) (work recipe : List ℕ) (hw : length work ≡ program_work
       omega (arith, few_bits c p q, pow_mono {i = odd_bits c - 1} {j = 15} (omega (arith, few_bits c p q))) in
       let l : 5 * (odd_bits c / 2) ≤ length recipe = omega (arith, few_bits c p q) in
       let passed : Passed c (length work) (length recipe) = record { some = p; small = q; long = k; room = l } in
-      let z = by_verdict c work recipe Kept (passed_kept c (length work) (length recipe) passed) in
-      let e : a ≡ Lines n = ap (λ (o : Planning). o.answer) (h ∙ z) in
+      let z = by_verdict c work recipe (Ok tt) (passed_kept c (length work) (length recipe) passed) in
+      let e : a ≡ Ok n = ap (λ (o : Planning). o.answer) (h ∙ z) in
       let t = ap (λ (o : Planning). take (5 * n) o.recipe) h ∙ recipe_in_room c work recipe passed in
       record {
         text = ap (λ (x : Planned). planned_text x c w recipe') e ∙ ap (recipe_text c w) t ∙ recipe_printed c p q w;
@@ -158,7 +156,7 @@ module _ (c w : ℕ) (work recipe : List ℕ) (hw : length work ≡ program_work
   unfolding planned_text
   refused_shown r =
       let hit = first_hit [] _ (drop 1 (plan_tests c (length work) (length recipe))) Constant tt (hits (out_of_range c) Constant r) in
-      let e = ap (λ (o : Planning). o.answer) (h ∙ by_verdict c work recipe (Broken Constant) hit) in
+      let e = ap (λ (o : Planning). o.answer) (h ∙ by_verdict c work recipe (Err Constant) hit) in
       record { text = ap (λ (x : Planned). planned_text x c w recipe') e ∙ rw r; fits = planned_fits_as program_recipe (sym e) tt }
 
   pub planned_shown : Shows c w a recipe'

@@ -1,3 +1,4 @@
 pub mod Sizes
 pub mod Put
+pub mod Puts
 pub mod Steps

@@ -2,25 +2,27 @@
 
 #![tactic(auto)]
 
-mod number;
 mod print;
+mod put;
 mod read;
 mod text;
 
 ghost use Rattle.wording.specs.Print.{Files};
 
-use wording::Printed;
+use put::Out;
 
 // Every file fits into a room of this length.
 pub const ROOM: usize = 262_144;
 
 // Puts what the program prints for its whole input into the front of a room.
-#[tactic(auto, using(wording::proofs::Filed::too_short))]
-pub fn file(input: &[u8], out: &mut [u8]) -> Printed
+#[tactic(auto, using(wording::proofs::Filed::too_short, wording::proofs::Filed::long_enough))]
+pub fn file(input: &[u8], out: &mut [u8]) -> Option<usize>
     ensures { Files input.now out.old result out.new }
 {
     if out.len() < ROOM {
-        return Printed::Short;
+        return None;
     }
-    Printed::Bytes(print::put_answer(out, input))
+    let mut out = Out { room: out, at: 0 };
+    print::put_answer(&mut out, input);
+    Some(out.at)
 }

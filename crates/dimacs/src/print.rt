@@ -1,57 +1,16 @@
 // From a request to the bytes that answer it: plan, write, print.
-ghost use Rattle.std.specs.Prelude.{◌≡◌, ◌+◌, ◌*◌, ◌≤◌, length};
-ghost use Rattle.dimacs.specs.Sizes.{program_words, program_work};
-ghost use Rattle.wording.specs.Print.{file_room};
-ghost use Rattle.line.specs.Refusal.{refusal_number};
-ghost use Rattle.dimacs.specs.Put.{Put};
-ghost use Rattle.wording.specs.Print.{answered, printed};
+ghost use Rattle.std.specs.Prelude.{◌≡◌, ◌+◌, ◌*◌, length, Some};
+ghost use Rattle.dimacs.specs.Puts.{Has, Puts};
+ghost use Rattle.wording.specs.Print.{answered, file_room, printed};
 ghost use Rattle.dimacs.specs.Steps.{WrittenFits, written_text, recipe_text, PlannedFits, planned_text};
-ghost use Rattle.wording.specs.declared.Request.TheVariants.{Asked};
 ghost use Rattle.split.specs.Choose.{split_of};
-ghost use Rattle.wording.specs.File.{refused_text};
 
+use crate::put::Out;
 use crate::read::read_request;
-use crate::text::{put_file, put_number};
 use line::{Line, Refusal};
-use plan::Planned;
-use product::Written;
-use wording::Request;
+use product::Counts;
 
-fn put_refusal(out: &mut [u8], x: Refusal) -> usize
-    requires { 29 ≤ length out.old }
-    ensures { Put out.old out.new 0 result (refused_text (refusal_number x)) }
-{
-    put_number(out, 0, b"refused ", x.number(), b'\n')
-}
-
-fn put_written(
-    out: &mut [u8],
-    c: u32,
-    w: u32,
-    written: Written,
-    bits: &[i32],
-    words: &[i32],
-) -> usize
-    requires written_fits { WrittenFits written (length bits.now) (length words.now) }
-    requires words_in_bounds { 100 + 12 * (length bits.now + length words.now) ≤ length out.old }
-    ensures { Put out.old out.new 0 result (written_text written c w bits.now words.now) }
-{
-    match written {
-        Written::Refused(x) => put_refusal(out, x),
-        Written::Clauses(n) => put_file(
-            out,
-            c as u64,
-            w as u64,
-            &bits[..n.bits],
-            n.next as u64 - 1,
-            n.clauses as u64,
-            &words[..n.words],
-        ),
-    }
-}
-
-// The rooms are long enough for every constant and width. The long ones are made by a call, so that the caller's proof sees their length
-// and no entry.
+// The rooms are long enough for every constant and width.
 
 // 2^(L-1) splits.
 const WORK_BYTES: usize = 1 << (Line::MOST_BITS - 1);
@@ -59,61 +18,93 @@ const WORK_BYTES: usize = 1 << (Line::MOST_BITS - 1);
 // L div 2 lines.
 const RECIPE_BYTES: usize = Line::BYTES * (Line::MOST_BITS / 2);
 
-// c * (2^w - 1) has at most L + w bits.
+// c * (2^w - 1) has at most L + w bits. (A constant calls no From.)
 const BITS: usize = Line::MOST_BITS + Line::MOST_WIDTH as usize;
 
 // That many columns in each line, and at most 64 words in a column.
 const WORDS: usize = Line::MOST_BITS / 2 * BITS * 64;
 
-fn work_room() -> [u8; WORK_BYTES]
-    ensures { program_work ≡ length result }
+// A long room is made by a call, so that the caller's proof sees its length and no entry.
+fn room<T: Copy, const N: usize>(entry: T) -> [T; N]
+    ensures { length result ≡ N }
 {
-    [0; WORK_BYTES]
+    [entry; N]
 }
 
-fn word_room() -> [i32; WORDS]
-    ensures { program_words ≡ length result }
-{
-    [0; WORDS]
+// The constant and the width that are asked for.
+#[derive(Clone, Copy)]
+struct Product {
+    c: u64,
+    w: u32,
 }
 
-fn put_recipe(out: &mut [u8], c: u32, w: u32, recipe: &[u8]) -> usize
-    requires { file_room ≤ length out.old }
-    ensures { Put out.old out.new 0 result (recipe_text c w recipe.now) }
-{
-    let mut bits = [0; BITS];
-    let mut words = word_room();
-    let written = write::write_plain(c as u64, w, recipe, &mut bits, &mut words);
-    put_written(out, c, w, written, &bits, &words)
-}
+impl Product {
+    fn put(self, out: &mut Out)
+        requires { Has out.old file_room }
+        ensures { Puts out.old out.new (answered split_of (Some (self.c, self.w))) }
+    {
+        let mut work = room::<u8, WORK_BYTES>(0);
+        let mut recipe = [0; RECIPE_BYTES];
+        let planned = plan::plan(self.c, &mut work, &mut recipe);
+        self.put_planned(out, planned, &recipe);
+    }
 
-fn put_planned(out: &mut [u8], c: u32, w: u32, planned: Planned, recipe: &[u8]) -> usize
-    requires { (PlannedFits planned (length recipe.now)) × (file_room ≤ length out.old) }
-    ensures { Put out.old out.new 0 result (planned_text planned c w recipe.now) }
-{
-    match planned {
-        Planned::Refused(x) => put_refusal(out, x),
-        Planned::Lines(n) => put_recipe(out, c, w, &recipe[..Line::BYTES * n]),
+    #[tactic(auto, unfolding(crate::specs::Steps::planned_text))]
+    fn put_planned(self, out: &mut Out, planned: Result<usize, Refusal>, recipe: &[u8])
+        requires { (PlannedFits planned (length recipe.now)) × Has out.old file_room }
+        ensures { Puts out.old out.new (planned_text planned self.c self.w recipe.now) }
+    {
+        match planned {
+            Err(x) => out.refusal(x),
+            Ok(n) => self.put_recipe(out, &recipe[..Line::BYTES * n]),
+        }
+    }
+
+    fn put_recipe(self, out: &mut Out, recipe: &[u8])
+        requires { Has out.old file_room }
+        ensures { Puts out.old out.new (recipe_text self.c self.w recipe.now) }
+    {
+        let mut bits = [0; BITS];
+        let mut words = room::<i32, WORDS>(0);
+        let written = write::write_plain(self.c, self.w, recipe, &mut bits, &mut words);
+        self.put_written(out, written, &bits, &words);
+    }
+
+    #[tactic(auto, unfolding(crate::specs::Steps::written_text))]
+    fn put_written(
+        self,
+        out: &mut Out,
+        written: Result<Counts, Refusal>,
+        bits: &[i32],
+        words: &[i32],
+    )
+        requires written_fits { WrittenFits written (length bits.now) (length words.now) }
+        requires words_in_bounds { Has out.old (100 + 12 * (length bits.now + length words.now)) }
+        ensures { Puts out.old out.new (written_text written self.c self.w bits.now words.now) }
+    {
+        match written {
+            Err(x) => out.refusal(x),
+            Ok(n) => out.file(
+                self.c,
+                u64::from(self.w),
+                &bits[..n.bits],
+                u64::from(n.next) - 1,
+                // There is no From between usize and u64.
+                n.clauses as u64,
+                &words[..n.words],
+            ),
+        }
     }
 }
 
-fn put_product(out: &mut [u8], c: u32, w: u32) -> usize
-    requires { file_room ≤ length out.old }
-    ensures { Put out.old out.new 0 result (answered split_of (Asked c w)) }
+#[tactic(auto, using(crate::proofs::Planning::printed_as))]
+pub(crate) fn put_answer(out: &mut Out, input: &[u8])
+    requires { Has out.old file_room }
+    ensures { Puts out.old out.new (printed input.now) }
 {
-    let mut work = work_room();
-    let mut recipe = [0; RECIPE_BYTES];
-    let planned = plan::plan(c as u64, &mut work, &mut recipe);
-    put_planned(out, c, w, planned, &recipe)
-}
-
-pub(crate) fn put_answer(out: &mut [u8], input: &[u8]) -> usize
-    requires { file_room ≤ length out.old }
-    ensures { Put out.old out.new 0 result (printed input.now) }
-{
-    let request = read_request(input);
-    let Request::Asked(c, w) = request else {
-        return put_refusal(out, Refusal::Input);
+    let Some((c, w)) = read_request(input) else {
+        return out.refusal(Refusal::Input);
     };
-    put_product(out, c, w)
+    let c = u64::from(c);
+    Product { c, w }.put(out);
 }

@@ -17,6 +17,9 @@ use Rattle.gates.specs.Gate.{gate_clauses, column_clauses, taken, after}
 use Rattle.gates.specs.declared.Gate.{Gate}
 use Rattle.gates.specs.declared.Gate.TheVariants.{Empty, ParityOfTwo, ParityOfThree, Both, Most}
 use Rattle.gates.specs.declared.Taken.{Taken}
+use Rattle.line.proofs.Room.{and_then}
+use Rattle.cnf.proofs.Flips.{flips_false, not_twice}
+use Rattle.gates.proofs.Codes.{literal_negated}
 
 -- ---- how many
 
@@ -81,3 +84,11 @@ module _ (cs : List Clause) (rest : List ℤ) where
   pub taken_stays : length rest < (taken cs).words → rest ≡ after cs rest
   unfolding taken
   taken_stays h = stays h
+
+-- ---- what the gates' functions are proved by
+
+pub ruleset code_steps = (literal_negated, zero_word, flips_false, not_twice)
+
+pub ruleset gate_steps = (gate_taken_few, and_then, words_append)
+
+pub ruleset column_steps = (column_words, taken_fits, taken_stays)

@@ -38,6 +38,9 @@ word_minus b h e =
     let f : b / 2 < 2 ^ 31 = omega arith in
     to_z-of_z w32 _ (minus_fits (b / 2) f) ∙ (minus (b / 2) f ∙ sym (word_odd b e))
 
+-- what `word` is proved by
+pub ruleset word_steps = (word_plain, word_minus, minus_fits)
+
 -- ---- one after another
 
 -- the word of one code more

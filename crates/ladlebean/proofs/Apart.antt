@@ -5,7 +5,7 @@ use mathlib.Core.List.{List}
 use lib.IntN.{ℤ}
 use Rattle.line.specs.declared.Told.{Told}
 use Rattle.product.specs.Write.{Writing, writing}
-use Rattle.product.specs.declared.Written.{Written}
+use Rattle.product.specs.Write.{Written}
 use Rattle.ladlebean.specs.Archive.{ToldApart, Fields, Apart}
 
 pub told_as : {t u : Told} {n l : ℕ} {v : ℤ} → t ≡ u → ToldApart t n l v → ToldApart u n l v

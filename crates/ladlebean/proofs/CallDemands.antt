@@ -6,6 +6,7 @@
 -- Planning: which of its answers is given, and when (`planning_answers`); what stands in both rooms then (`planning_refused`,
 -- `recipe_stays`, `work_holds`, `work_stays`); that the recipe is one by the rules, and the only one (`planned_by_rules`). Writing and the
 -- pass likewise.
+use Rattle.std.specs.Prelude.{Ok, Err}
 use Prim.Native.Nat.{ℕ, suc, ◌+◌, ◌-◌, ◌*◌, ◌/◌, ◌%◌, ◌^◌, ◌≤◌, ◌<◌}
 use mathlib.Core.Path.{◌≡◌, refl, ap, ap₂, ◌∙◌, sym, subst}
 use mathlib.Core.Logic.{◌≢◌, ⊎_elim}
@@ -16,16 +17,15 @@ use lib.IntN.{ℤ, pos, nat_abs}
 use lib.ListN.{length, get_or, take, drop}
 use Rattle.line.specs.Limits.{most_next, not_a_width}
 use Rattle.line.specs.Number.{bit_length, odd_part}
-use Rattle.line.specs.Refusal.{told, refusal_line, refusal_value}
+use Rattle.line.specs.Refusal.{told, refusal_line, refusal_value, told_of, number_of}
 use Rattle.line.specs.declared.Line.{Line}
 use Rattle.line.specs.declared.Refusal.{Refusal}
 use Rattle.line.specs.declared.Told.{Told}
 use Rattle.line.proofs.Number.{bits_le, bits_pos, odd_part_le, odd_part_odd}
 use Rattle.line.proofs.Refusals.{number_only, refusal_above_0}
-use Rattle.recipe.specs.Check.{checked, checked_told, line_at}
+use Rattle.recipe.specs.Check.{checked, line_at}
 use Rattle.recipe.specs.Accepted.{Right}
-use Rattle.recipe.specs.declared.Checked.{Checked}
-use Rattle.recipe.specs.declared.Checked.TheVariants as check-answers
+use Rattle.recipe.specs.Check.{Checked}
 use Rattle.recipe.specs.Refused.{FirstBad}
 use Rattle.recipe.proofs.Accepted.{accepted_right, right_accepted, shift_least}
 use Rattle.recipe.proofs.Refused.{refused_first_bad, first_bad_told, value_bits}
@@ -38,8 +38,7 @@ use Rattle.split.proofs.Rules.{keeps_rule, one_recipe, only_lookup, recipe_by_ru
 use Rattle.split.proofs.Form.{form_is, form_only}
 use Rattle.split.specs.Choose as choose
 use Rattle.plan.specs.Plan as plan-specs
-use Rattle.plan.specs.Plan.{odd_bits, planned, planned_number, planned_lines}
-use Rattle.plan.specs.declared.Planned.TheVariants as plan-answers
+use Rattle.plan.specs.Plan.{odd_bits, planned, planned_lines}
 use Rattle.plan.proofs.Plans.{Passed}
 use Rattle.plan.proofs.AtExit as plan-exit
 use Rattle.plan.proofs.AtExit.{Answers, HoldsPlan}
@@ -52,10 +51,9 @@ use Rattle.product.specs.Product.{Product, product_of, clause_words, lines_of}
 use Rattle.product.specs.ByLine.{joined, line_clauses}
 use Rattle.product.specs.Write as write-specs
 use Rattle.product.specs.Write.{writing, written, write_by, write_answer, plain_answer, y_length}
-use Rattle.product.specs.Write.{written_told, written_number, words_used, clauses_written, next_free, bits_of_y}
+use Rattle.product.specs.Write.{words_used, clauses_written, next_free, bits_of_y}
 use Rattle.product.specs.Demand.{Demand2, PlainDemand2, Counted, Opened, Renamed}
-use Rattle.product.specs.declared.Written.{Written}
-use Rattle.product.specs.declared.Written.TheVariants as write-answers
+use Rattle.product.specs.Write.{Written}
 use Rattle.product.specs.Write.{not_literals}
 use Rattle.product.proofs.Given.{literals_of}
 use Rattle.product.proofs.Demands as product-demands
@@ -66,10 +64,9 @@ use Rattle.product.proofs.Success.{Success, answer_of, success}
 use Rattle.cnf.specs.Clause.{Literal, Clause, Assignment, negation, AllDistinct, StandsIn}
 use Rattle.cnf.specs.Words.{clauses_of, satisfies_words, names, DistinctBelow}
 use Rattle.propagate.specs.Pass as pass-specs
-use Rattle.propagate.specs.Pass.{all_unknown, clauses_read, propagated, propagated_number, propagating}
+use Rattle.propagate.specs.Pass.{all_unknown, clauses_read, propagated, propagating}
 use Rattle.propagate.specs.Promise.{GivenTrue, Agrees}
-use Rattle.propagate.specs.declared.Propagated.{Propagated}
-use Rattle.propagate.specs.declared.Propagated.TheVariants as pass-answers
+use Rattle.propagate.specs.Pass.{Propagated}
 use Rattle.propagate.proofs.Exact.{refused_room, refused_26, given_right}
 use Rattle.propagate.proofs.Sound.{Sound, sound, count_read}
 use Rattle.ladlebean.specs.Archive.{PlanApart, Apart, PassApart}
@@ -84,8 +81,8 @@ use Rattle.ladlebean.proofs.PlannedLines.{planned_reads}
 
 -- ---- what a caller learns, of the crate's own call and of the archive's entry point
 
-check_learnt : (k : Checking) → (check_seen k).told ≡ checked_told (checked (check_seen k).c (check_seen k).recipe)
-check_learnt (by_check o) = ap checked_told o.learnt
+check_learnt : (k : Checking) → (check_seen k).told ≡ told_of (checked (check_seen k).c (check_seen k).recipe)
+check_learnt (by_check o) = ap told_of o.learnt
 check_learnt (by_archive_check o) =
     let l = o.learnt in
     λ i. record { number = l.number_told i; line = l.line_told i; value = l.value_told i }
@@ -94,7 +91,7 @@ plan_learnt : (k : Planning)
     → PlanApart (planned (plan_seen k).c (plan_seen k).work (plan_seen k).recipe) (plan_seen k).number (plan_seen k).work'
     (plan_seen k).recipe' (plan_seen k).lines
 plan_learnt (by_plan o) = record {
-  number_told = ap (λ (p : plan-specs.Planning). planned_number p.answer) o.learnt;
+  number_told = ap (λ (p : plan-specs.Planning). number_of p.answer) o.learnt;
   work_room = ap (λ (p : plan-specs.Planning). p.work) o.learnt;
   recipe_room = ap (λ (p : plan-specs.Planning). p.recipe) o.learnt;
   lines_told = ap (λ (p : plan-specs.Planning). planned_lines p.answer) o.learnt;
@@ -103,16 +100,16 @@ plan_learnt (by_archive_plan o) = o.learnt
 
 -- what writing leaves, field by field
 fields_of : {o : write-specs.Writing} {a : Written} {b c : List ℤ} → writing a b c ≡ o
-    → Apart o (written_told a).number b c (words_used a) (clauses_written a) (next_free a) (bits_of_y a) (written_told a).line
-    (written_told a).value
+    → Apart o (told_of a).number b c (words_used a) (clauses_written a) (next_free a) (bits_of_y a) (told_of a).line
+    (told_of a).value
 fields_of e = record {
   bit_room = ap (λ (p : write-specs.Writing). p.bits) e;
   clause_room = ap (λ (p : write-specs.Writing). p.clauses) e;
   fields = record {
     told = record {
-      number_told = ap (λ (p : write-specs.Writing). (written_told p.answer).number) e;
-      line_told = ap (λ (p : write-specs.Writing). (written_told p.answer).line) e;
-      value_told = ap (λ (p : write-specs.Writing). (written_told p.answer).value) e;
+      number_told = ap (λ (p : write-specs.Writing). (told_of p.answer).number) e;
+      line_told = ap (λ (p : write-specs.Writing). (told_of p.answer).line) e;
+      value_told = ap (λ (p : write-specs.Writing). (told_of p.answer).value) e;
     };
     words_told = ap (λ (p : write-specs.Writing). words_used p.answer) e;
     clauses_told = ap (λ (p : write-specs.Writing). clauses_written p.answer) e;
@@ -140,7 +137,7 @@ pass_learnt : (k : Passing)
     → PassApart (propagated (pass_seen k).words (pass_seen k).given (pass_seen k).allowance (pass_seen k).values) (pass_seen k).number
     (pass_seen k).values' (pass_seen k).clauses
 pass_learnt (by_propagate o) = record {
-  number_told = ap (λ (p : pass-specs.Propagating). propagated_number p.answer) o.learnt;
+  number_told = ap (λ (p : pass-specs.Propagating). number_of p.answer) o.learnt;
   value_room = ap (λ (p : pass-specs.Propagating). p.room) o.learnt;
   clauses_told = ap (λ (p : pass-specs.Propagating). clauses_read p.answer) o.learnt;
 }
@@ -152,30 +149,30 @@ pass_learnt (by_archive_propagate o) = o.learnt
 abbrev NumberAlone : Told → Type 0
 NumberAlone t = (4 ≤ t.number → t.number ≤ 7 → ⊥) → (t.line ≡ 0) × (t.value ≡ pos 0)
 
-check_alone : (a : Checked) → NumberAlone (checked_told a)
-check_alone check-answers.Accepted h = (refl, refl)
-check_alone (check-answers.Refused r) h = number_only r h
+check_alone : (a : Checked) → NumberAlone (told_of a)
+check_alone (Ok u) h = (refl, refl)
+check_alone (Err r) h = number_only r h
 
-accepts : (a : Checked) → (checked_told a).number ≡ 0 → a ≡ check-answers.Accepted
-accepts check-answers.Accepted z = refl
-accepts (check-answers.Refused r) z = absurd (omega (arith, refusal_above_0 r))
+accepts : (a : Checked) → (told_of a).number ≡ 0 → a ≡ Ok tt
+accepts (Ok u) z = refl
+accepts (Err r) z = absurd (omega (arith, refusal_above_0 r))
 
-refuses : (a : Checked) → ((checked_told a).number ≡ 0 → ⊥) → (r : Refusal) × (a ≡ check-answers.Refused r)
-refuses check-answers.Accepted h = absurd (h refl)
-refuses (check-answers.Refused r) h = (r, refl)
+refuses : (a : Checked) → ((told_of a).number ≡ 0 → ⊥) → (r : Refusal) × (a ≡ Err r)
+refuses (Ok u) h = absurd (h refl)
+refuses (Err r) h = (r, refl)
 
 module _ (k : Checking) where
   abbrev check : CheckSeen
   check = check_seen k
 
-  number_checked : check.told.number ≡ (checked_told (checked check.c check.recipe)).number
+  number_checked : check.told.number ≡ (told_of (checked check.c check.recipe)).number
   number_checked = ap (λ (t : Told). t.number) (check_learnt k)
 
   pub accepted_exactly : (check.told.number ≡ 0 → Right check.c check.recipe)
       × (Right check.c check.recipe → check.told.number ≡ 0)
   accepted_exactly = (
     λ z. accepted_right check.c check.recipe (accepts (checked check.c check.recipe) (sym number_checked ∙ z)),
-    λ g. number_checked ∙ ap (λ (a : Checked). (checked_told a).number) (right_accepted check.c check.recipe g),
+    λ g. number_checked ∙ ap (λ (a : Checked). (told_of a).number) (right_accepted check.c check.recipe g),
   )
 
   -- an accepted line shifts
@@ -185,7 +182,7 @@ module _ (k : Checking) where
   pub bad_line_told : 4 ≤ check.told.number → check.told.number ≤ 7 → FirstBad check.recipe check.told
   bad_line_told h h' =
       let q = refuses (checked check.c check.recipe) (λ z. omega (arith, number_checked ∙ z)) in
-      let e : check.told ≡ told q.0 = check_learnt k ∙ ap checked_told q.1 in
+      let e : check.told ≡ told q.0 = check_learnt k ∙ ap told_of q.1 in
       let n = ap (λ (t : Told). t.number) e in
       subst (FirstBad check.recipe) (sym e)
       (refused_first_bad check.recipe check.c q.0 q.1 (omega (arith, n)) (omega (arith, n)))
@@ -215,7 +212,7 @@ module _ (k : Planning) where
   -- which of the four answers, and so when
   pub planning_answers : Answers plan.c (length plan.work) (length plan.recipe) plan.number
   planning_answers = subst (Answers plan.c (length plan.work) (length plan.recipe))
-      (sym ((plan_learnt k).number_told ∙ ap planned_number (plan-exit.answer_is plan.c plan.work plan.recipe)))
+      (sym ((plan_learnt k).number_told ∙ ap number_of (plan-exit.answer_is plan.c plan.work plan.recipe)))
       (plan-exit.answers plan.c (length plan.work) (length plan.recipe))
 
   pub planning_succeeds : Passed plan.c (length plan.work) (length plan.recipe) → plan.number ≡ 0
@@ -305,10 +302,10 @@ module _ (k : Planning) where
         (sym holds.recipe_holds) (planned_bits plan.c least passed.small)
 
 -- planning's refusals tell no line and no value
-pub planning_number_alone : (o : Outcome PlanKinds.ps PlanKinds.r Plan.Learnt) (r : Refusal) → o.answer ≡ plan-answers.Refused r
+pub planning_number_alone : (o : Outcome PlanKinds.ps PlanKinds.r Plan.Learnt) (r : Refusal) → o.answer ≡ Err r
     → (refusal_line r ≡ 0) × (refusal_value r ≡ pos 0)
 planning_number_alone o r e = number_only r (λ h h'.
-    let n = ap planned_number e in
+    let n = ap number_of e in
     ⊎_elim (λ a. omega (arith, a.1, n)) (λ b. ⊎_elim (λ a. omega (arith, a.3, n))
     (λ b. ⊎_elim (λ a. omega (arith, a.4, n)) (λ a. omega (arith, a.1, n)) b) b)
     (planning_answers (by_plan o)))
@@ -328,17 +325,17 @@ one_form n = (form_is n, form_only n)
 -- a success with the counts that are seen
 abbrev as_told : WriteSeen → Written
 as_told s =
-    write-answers.Clauses (record { words = s.words_used; clauses = s.clauses_written; next = s.next; bits = s.bits_of_y })
+    Ok (record { words = s.words_used; clauses = s.clauses_written; next = s.next; bits = s.bits_of_y })
 
 written_is : (s : WriteSeen) (a : Written) (b c : List ℤ) → WrittenAs s (writing a b c) → s.told.number ≡ 0
     → writing (as_told s) s.bits' s.clauses' ≡ writing a b c
-written_is s (write-answers.Clauses n) b c p z =
+written_is s (Ok n) b c p z =
     let f = p.fields in
     λ i. writing
-    (write-answers.Clauses
+    (Ok
     (record { words = f.words_told i; clauses = f.clauses_told i; next = f.next_told i; bits = f.bits_told i }))
     (p.bit_room i) (p.clause_room i)
-written_is s (write-answers.Refused r) b c p z = absurd (omega (arith, p.fields.told.number_told, z, refusal_above_0 r))
+written_is s (Err r) b c p z = absurd (omega (arith, p.fields.told.number_told, z, refusal_above_0 r))
 
 -- what a refusal leaves
 pub record Unwritten (s : WriteSeen) : Type 0 where
@@ -351,8 +348,8 @@ pub record Unwritten (s : WriteSeen) : Type 0 where
 
 unwritten : (s : WriteSeen) (a : Written) (p : Product) → WrittenAs s (write_by a p s.bits s.clauses) → (s.told.number ≡ 0 → ⊥)
     → Unwritten s
-unwritten s (write-answers.Clauses n) p l h = absurd (h l.fields.told.number_told)
-unwritten s (write-answers.Refused r) p l h = record {
+unwritten s (Ok n) p l h = absurd (h l.fields.told.number_told)
+unwritten s (Err r) p l h = record {
   bits_stay = l.bit_room;
   clauses_stay = l.clause_room;
   no_words = l.fields.words_told;
@@ -361,13 +358,13 @@ unwritten s (write-answers.Refused r) p l h = record {
   no_bits = l.fields.bits_told;
 }
 
-write_alone : (a : Written) → NumberAlone (written_told a)
-write_alone (write-answers.Clauses n) h = (refl, refl)
-write_alone (write-answers.Refused r) h = number_only r h
+write_alone : (a : Written) → NumberAlone (told_of a)
+write_alone (Ok n) h = (refl, refl)
+write_alone (Err r) h = number_only r h
 
-write_refuses : (a : Written) → (written_number a ≡ 0 → ⊥) → (r : Refusal) × (a ≡ write-answers.Refused r)
-write_refuses (write-answers.Clauses n) h = absurd (h refl)
-write_refuses (write-answers.Refused r) h = (r, refl)
+write_refuses : (a : Written) → (number_of a ≡ 0 → ⊥) → (r : Refusal) × (a ≡ Err r)
+write_refuses (Ok n) h = absurd (h refl)
+write_refuses (Err r) h = (r, refl)
 
 module _ (k : Writing) where
   abbrev write : WriteSeen
@@ -377,11 +374,11 @@ module _ (k : Writing) where
   abbrev tested : Written
   tested = write_answer write.c write.w write.x write.first write.recipe (length write.bits) (length write.clauses)
 
-  pub writing_tests : write.told ≡ written_told tested
+  pub writing_tests : write.told ≡ told_of tested
   writing_tests =
       let t = (write_learnt k).fields.told in
       (λ i. record { number = t.number_told i; line = t.line_told i; value = t.value_told i })
-      ∙ ap written_told (answer_of write.c write.w write.x write.first write.recipe write.bits write.clauses)
+      ∙ ap told_of (answer_of write.c write.w write.x write.first write.recipe write.bits write.clauses)
 
   pub writing_refused : (write.told.number ≡ 0 → ⊥) → Unwritten write
   unfolding written
@@ -393,8 +390,8 @@ module _ (k : Writing) where
   -- ---- beside a check of the same recipe for the same constant
 
   module _ (m : Checking) (same_c : (check m).c ≡ write.c) (same_recipe : (check m).recipe ≡ write.recipe) where
-    told_by_check : (check m).told ≡ checked_told (checked write.c write.recipe)
-    told_by_check = check_learnt m ∙ ap₂ (λ (c : ℕ) (r : List ℕ). checked_told (checked c r)) same_c same_recipe
+    told_by_check : (check m).told ≡ told_of (checked write.c write.recipe)
+    told_by_check = check_learnt m ∙ ap₂ (λ (c : ℕ) (r : List ℕ). told_of (checked c r)) same_c same_recipe
 
     -- where width and literals are right, a refusal of checking is writing's own
     pub writing_as_checking : not_a_width write.w ≡ false → not_literals write.w write.x write.first ≡ false
@@ -402,27 +399,27 @@ module _ (k : Writing) where
     writing_as_checking width literals h =
         let q = refuses (checked write.c write.recipe) (λ z. h (ap (λ (t : Told). t.number) told_by_check ∙ z)) in
         writing_tests
-        ∙ ap written_told (refused_alike write.c write.w write.x write.first write.recipe (length write.bits)
+        ∙ ap told_of (refused_alike write.c write.w write.x write.first write.recipe (length write.bits)
         (length write.clauses) width literals q.0 q.1)
-        ∙ sym (told_by_check ∙ ap checked_told q.1)
+        ∙ sym (told_by_check ∙ ap told_of q.1)
 
     -- and a refusal of writing by a line's rule is checking's own
     pub checking_as_writing : 4 ≤ write.told.number → write.told.number ≤ 7 → (check m).told ≡ write.told
     checking_as_writing h h' =
         let n = ap (λ (t : Told). t.number) writing_tests in
         let q = write_refuses tested (λ z. omega (arith, n ∙ z)) in
-        let e = n ∙ ap written_number q.1 in
+        let e = n ∙ ap number_of q.1 in
         told_by_check
-        ∙ ap checked_told (line_refused_alike write.c write.w write.x write.first write.recipe (length write.bits)
+        ∙ ap told_of (line_refused_alike write.c write.w write.x write.first write.recipe (length write.bits)
         (length write.clauses) q.0 q.1 (omega (arith, e)) (omega (arith, e)))
-        ∙ sym (writing_tests ∙ ap written_told q.1)
+        ∙ sym (writing_tests ∙ ap told_of q.1)
 
   pub bad_line_told_writing : 4 ≤ write.told.number → write.told.number ≤ 7 → FirstBad write.recipe write.told
   bad_line_told_writing h h' =
       let n = ap (λ (t : Told). t.number) writing_tests in
       let q = write_refuses tested (λ z. omega (arith, n ∙ z)) in
-      let e = n ∙ ap written_number q.1 in
-      subst (FirstBad write.recipe) (sym (writing_tests ∙ ap written_told q.1))
+      let e = n ∙ ap number_of q.1 in
+      subst (FirstBad write.recipe) (sym (writing_tests ∙ ap told_of q.1))
       (refused_first_bad write.recipe write.c q.0
       (line_refused_alike write.c write.w write.x write.first write.recipe (length write.bits)
       (length write.clauses) q.0 q.1 (omega (arith, e)) (omega (arith, e))) (omega (arith, e)) (omega (arith, e)))
@@ -508,9 +505,9 @@ module _ (k : Writing) where
 
   -- its tests are document 01's: it never refuses by 14 or 15
   pub plain_tests : write.x ≡ numbered 1 write.w → write.first ≡ suc write.w
-      → write.told ≡ written_told (plain_answer write.c write.w write.recipe (length write.bits) (length write.clauses))
+      → write.told ≡ told_of (plain_answer write.c write.w write.recipe (length write.bits) (length write.clauses))
   plain_tests numbers follows = writing_tests
-      ∙ ap written_told
+      ∙ ap told_of
       (ap₂ (λ (x : List ℤ) (first : ℕ). write_answer write.c write.w x first write.recipe (length write.bits)
       (length write.clauses)) numbers follows
       ∙ plain_order write.c write.w write.recipe (length write.bits) (length write.clauses))
@@ -570,13 +567,13 @@ few_clauses p y k z same =
 -- ---- one pass over any words
 
 read_is : {v : List ℕ} {n c : ℕ} (a : Propagated) (r : List ℕ) → PassApart (propagating a r) n v c → n ≡ 0
-    → propagating (pass-answers.Read c) v ≡ propagating a r
-read_is (pass-answers.Read m) r p z = λ i. propagating (pass-answers.Read (p.clauses_told i)) (p.value_room i)
-read_is (pass-answers.Refused x) r p z = absurd (omega (arith, p.number_told, z, refusal_above_0 x))
+    → propagating (Ok c) v ≡ propagating a r
+read_is (Ok m) r p z = λ i. propagating (Ok (p.clauses_told i)) (p.value_room i)
+read_is (Err x) r p z = absurd (omega (arith, p.number_told, z, refusal_above_0 x))
 
-pass_refuses : (a : Propagated) → (propagated_number a ≡ 0 → ⊥) → (x : Refusal) × (a ≡ pass-answers.Refused x)
-pass_refuses (pass-answers.Read n) h = absurd (h refl)
-pass_refuses (pass-answers.Refused x) h = (x, refl)
+pass_refuses : (a : Propagated) → (number_of a ≡ 0 → ⊥) → (x : Refusal) × (a ≡ Err x)
+pass_refuses (Ok n) h = absurd (h refl)
+pass_refuses (Err x) h = (x, refl)
 
 module _ (k : Passing) where
   abbrev pass : PassSeen
@@ -611,7 +608,7 @@ module _ (k : Passing) where
   conflict_real e α t s = (speaks (λ f. omega (arith, e, f)) α t s).no_conflict (sym (pass_learnt k).number_told ∙ e)
 
   module _ (z : pass.number ≡ 0) where
-    read : propagating (pass-answers.Read pass.clauses) pass.values' ≡ outcome
+    read : propagating (Ok pass.clauses) pass.values' ≡ outcome
     read = read_is outcome.answer outcome.room (pass_learnt k) z
 
     pub pass_counted : pass.clauses ≡ length (clauses_of pass.words)
@@ -628,7 +625,7 @@ pub pass_multiplies : (k : Writing) → (write k).told.number ≡ 0 → (m : Pas
     → (write k).clauses_written ≤ (pass m).allowance → all_unknown (pass m).values ≡ true → (write k).next ≤ suc (length (pass m).values)
     → ((pass m).number ≡ 0)
     × PassMultiplies (write k).c (write k).x (write k).first (write k).next (words_there (write k)) (entries_there (write k))
-    (pass m).given (pass m).values (propagating (pass-answers.Read (pass m).clauses) (pass m).values')
+    (pass m).given (pass m).values (propagating (Ok (pass m).clauses) (pass m).values')
 pass_multiplies k z m same distinct every enough unknown long =
     let s = write k in
     let q = pass m in
@@ -638,7 +635,7 @@ pass_multiplies k z m same distinct every enough unknown long =
     our-words.pass_multiplies s.c s.w s.x s.first s.recipe s.bits s.clauses (as_told s) s.bits' s.clauses'
     (meets k z) refl q.given distinct every q.allowance enough q.values unknown long in
     let n : q.number ≡ 0 = (pass_learnt m).number_told
-    ∙ ap (λ (p : pass-specs.Propagating). propagated_number p.answer) e ∙ ap propagated_number a.sets.read in (
+    ∙ ap (λ (p : pass-specs.Propagating). number_of p.answer) e ∙ ap number_of a.sets.read in (
       n,
       subst (PassMultiplies s.c s.x s.first s.next (words_there s) (entries_there s) q.given q.values)
           (sym (read m n ∙ e)) a,

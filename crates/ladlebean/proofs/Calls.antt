@@ -9,12 +9,12 @@ use lib.ListN.{take}
 use contract.Lifetimes.{Lfts}
 use denote.Triple.Clauses.{AtExit}
 use borrow.Fn.Kinds.{ParamKind, ResultKind, Out, Dens, res_t, ended_of}
+use Rattle.line.specs.Refusal.{told_of, number_of}
 use Rattle.line.specs.declared.Told.{Told}
-use Rattle.recipe.specs.Check.{checked_told}
-use Rattle.plan.specs.Plan.{planned_number, planned_lines}
+use Rattle.plan.specs.Plan.{planned_lines}
 use Rattle.product.specs.Bit.{numbered}
-use Rattle.product.specs.Write.{written_told, words_used, clauses_written, next_free, bits_of_y}
-use Rattle.propagate.specs.Pass.{propagated_number, clauses_read}
+use Rattle.product.specs.Write.{words_used, clauses_written, next_free, bits_of_y}
+use Rattle.propagate.specs.Pass.{clauses_read}
 use Rattle.recipe.proofs.check.Kinds as CheckKinds
 use Rattle.recipe.proofs.check.Reads as Check
 use Rattle.plan.proofs.plan.Kinds as PlanKinds
@@ -55,7 +55,7 @@ pub record CheckSeen : Type 0 where
   pub told : Told
 
 abbrev pub check_seen : Checking → CheckSeen
-check_seen (by_check o) = record { c = o.came.0; recipe = o.came.1.0.now; told = checked_told o.answer }
+check_seen (by_check o) = record { c = o.came.0; recipe = o.came.1.0.now; told = told_of o.answer }
 check_seen (by_archive_check o) = record {
   c = o.came.0;
   recipe = o.came.1.0.now;
@@ -82,7 +82,7 @@ plan_seen (by_plan o) = record {
   c = o.came.0;
   work = o.came.1.0.now;
   recipe = o.came.1.1.0.now;
-  number = planned_number o.answer;
+  number = number_of o.answer;
   lines = planned_lines o.answer;
   work' = o.left.1.0.now;
   recipe' = o.left.1.1.0.now;
@@ -130,7 +130,7 @@ write_seen (by_write o) = record {
   recipe = o.came.1.1.1.1.0.now;
   bits = o.came.1.1.1.1.1.0.now;
   clauses = o.came.1.1.1.1.1.1.0.now;
-  told = written_told o.answer;
+  told = told_of o.answer;
   words_used = words_used o.answer;
   clauses_written = clauses_written o.answer;
   next = next_free o.answer;
@@ -146,7 +146,7 @@ write_seen (by_write_plain o) = record {
   recipe = o.came.1.1.0.now;
   bits = o.came.1.1.1.0.now;
   clauses = o.came.1.1.1.1.0.now;
-  told = written_told o.answer;
+  told = told_of o.answer;
   words_used = words_used o.answer;
   clauses_written = clauses_written o.answer;
   next = next_free o.answer;
@@ -223,7 +223,7 @@ pass_seen (by_propagate o) = record {
   given = o.came.1.0.now;
   allowance = o.came.1.1.0;
   values = o.came.1.1.1.0.now;
-  number = propagated_number o.answer;
+  number = number_of o.answer;
   clauses = clauses_read o.answer;
   values' = o.left.1.1.1.0.now;
 }

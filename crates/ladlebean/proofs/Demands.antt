@@ -53,6 +53,7 @@
 -- succeeds, reads every clause, sets every variable opened, and y read off the values is c times the number given (`pass_multiplies`). That
 -- it sets them is proved from the laws of a step that opens a variable (crates/cnf, `Extends`), whichever columns make the steps; that y is
 -- c times x then is demand 2's own law.
+use Rattle.std.specs.Prelude.{Ok, Err}
 use Prim.Native.Nat.{ℕ, suc, ◌+◌, ◌-◌, ◌*◌, ◌/◌, ◌%◌, ◌^◌, ◌≤◌, ◌<◌}
 use mathlib.Core.Path.{◌≡◌, refl, ap, ◌∙◌, sym, subst}
 use mathlib.Core.Bool.{Bool, true, false}
@@ -63,15 +64,14 @@ use lib.Dec.{ltb}
 use lib.ListN.{length, get_or}
 use Rattle.line.specs.Limits.{line_bytes, out_of_range}
 use Rattle.line.specs.Number.{bit_length, odd_part}
-use Rattle.line.specs.Refusal.{told, refusal_number, refusal_line, refusal_value}
+use Rattle.line.specs.Refusal.{told, refusal_number, refusal_line, refusal_value, told_of, number_of}
 use Rattle.line.specs.declared.Refusal.{Refusal}
 use Rattle.line.specs.declared.Told.{Told}
 use Rattle.line.specs.declared.Refusal.TheVariants.{Constant, WorkRoom, RecipeRoom}
 use Rattle.line.proofs.Order.{of_answer, of_test}
 use Rattle.line.proofs.Refusals.{number_only}
-use Rattle.recipe.specs.Check.{checked, checked_told, coefficient_at}
+use Rattle.recipe.specs.Check.{checked, coefficient_at}
 use Rattle.recipe.specs.Accepted.{Right}
-use Rattle.recipe.specs.declared.Checked.TheVariants.{Accepted, Refused}
 use Rattle.recipe.specs.Refused.{FirstBad}
 use Rattle.recipe.proofs.Accepted.{accepted_right, right_accepted}
 use Rattle.recipe.proofs.Refused.{refused_first_bad, first_bad_told, value_bits}
@@ -86,18 +86,15 @@ use Rattle.split.proofs.Order.{coefficients_distinct, coefficients_members}
 use Rattle.split.proofs.Form.{form_is, form_only}
 use Rattle.plan.specs.Plan as plan
 use Rattle.plan.specs.Plan.{planned, plan_by, plan_answer, odd_bits}
-use Rattle.plan.specs.declared.Planned as plan-types
-use Rattle.plan.specs.declared.Planned.TheVariants as plan-answers
 use Rattle.plan.proofs.Accepts as plan-laws
 use Rattle.plan.proofs.Accepts.{planned_accepted, planned_claims, planned_lines_half, planned_lines_form, planned_bits}
 use Rattle.product.specs.Product.{Product, product_of, clause_words}
 use Rattle.product.specs.Bit.{numbered}
 use Rattle.line.specs.Limits.{most_next, out_of_range, not_a_width}
 use Rattle.product.specs.Write.{not_literals, Writing, writing, written, write_by, write_answer, plain_answer, y_length}
-use Rattle.product.specs.Write.{written_number, clauses_written, next_free, plain_written}
+use Rattle.product.specs.Write.{clauses_written, next_free, plain_written}
 use Rattle.product.specs.Demand.{Demand2, PlainDemand2, words_at_exit, entries_at_exit, Opened, Renamed}
-use Rattle.product.specs.declared.Written.{Written}
-use Rattle.product.specs.declared.Written.TheVariants as write-answers
+use Rattle.product.specs.Write.{Written}
 use Rattle.product.proofs.Given.{literals_of}
 use Rattle.product.proofs.Demands as product-demands
 use Rattle.product.proofs.Demands.{demand_2, not_refused, opened, plain_demand_2, renamed, demand_3_clauses}
@@ -106,10 +103,9 @@ use Rattle.product.proofs.Refused.{refused_alike, line_refused_alike}
 use Rattle.product.proofs.Success.{answer_of}
 use Rattle.cnf.specs.Clause.{Literal, Clause, Assignment, negation, AllDistinct, StandsIn}
 use Rattle.cnf.specs.Words.{clauses_of, satisfies_words, names, DistinctBelow}
-use Rattle.propagate.specs.Pass.{all_unknown, propagated, propagated_number}
+use Rattle.propagate.specs.Pass.{all_unknown, propagated}
 use Rattle.propagate.specs.Promise.{GivenTrue, Agrees}
-use Rattle.propagate.specs.declared.Propagated.{Propagated}
-use Rattle.propagate.specs.declared.Propagated.TheVariants as pass-answers
+use Rattle.propagate.specs.Pass.{Propagated}
 use Rattle.propagate.proofs.Exact.{refused_room, refused_26, given_right}
 use Rattle.propagate.proofs.Sound.{Sound, sound, count_read}
 use Rattle.ladlebean.specs.OurWords.{PassMultiplies}
@@ -117,29 +113,29 @@ use Rattle.ladlebean.proofs.OurWords as our-words
 
 -- ---- demand 1
 
-planning_by : (t : ℕ → ℕ) (a : plan-types.Planned) (c : ℕ) (work recipe : List ℕ) (x : Refusal)
-    → (plan_by t a c work recipe).answer ≡ plan-answers.Refused x
+planning_by : (t : ℕ → ℕ) (a : plan.Planned) (c : ℕ) (work recipe : List ℕ) (x : Refusal)
+    → (plan_by t a c work recipe).answer ≡ Err x
     → ((plan_by t a c work recipe).work ≡ work) × ((plan_by t a c work recipe).recipe ≡ recipe)
-planning_by t (plan-answers.Lines n) c work recipe x e =
+planning_by t (Ok n) c work recipe x e =
     let z : ◌≡◌ {A = ℕ} 0 1 = cc in
     absurd (omega arith)
-planning_by t (plan-answers.Refused y) c work recipe x e = (refl, refl)
+planning_by t (Err y) c work recipe x e = (refl, refl)
 
-pub planning_refused : (c : ℕ) (work recipe : List ℕ) (x : Refusal) → (planned c work recipe).answer ≡ plan-answers.Refused x
+pub planning_refused : (c : ℕ) (work recipe : List ℕ) (x : Refusal) → (planned c work recipe).answer ≡ Err x
     → ((planned c work recipe).work ≡ work) × ((planned c work recipe).recipe ≡ recipe)
 unfolding planned plan.plan_outcome
 planning_refused c work recipe x e = planning_by split_of (plan_answer split_of c (length work) (length recipe)) c work recipe x e
 
 writing_by : (a : Written) (p : Product) (bits clauses : List ℤ) (x : Refusal)
-    → (write_by a p bits clauses).answer ≡ write-answers.Refused x
+    → (write_by a p bits clauses).answer ≡ Err x
     → ((write_by a p bits clauses).bits ≡ bits) × ((write_by a p bits clauses).clauses ≡ clauses)
-writing_by (write-answers.Clauses n) p bits clauses x e =
+writing_by (Ok n) p bits clauses x e =
     let z : ◌≡◌ {A = ℕ} 0 1 = cc in
     absurd (omega arith)
-writing_by (write-answers.Refused y) p bits clauses x e = (refl, refl)
+writing_by (Err y) p bits clauses x e = (refl, refl)
 
 pub writing_refused : (c w : ℕ) (x : List ℤ) (first : ℕ) (recipe : List ℕ) (bits clauses : List ℤ) (r : Refusal)
-    → (written c w x first recipe bits clauses).answer ≡ write-answers.Refused r
+    → (written c w x first recipe bits clauses).answer ≡ Err r
     → ((written c w x first recipe bits clauses).bits ≡ bits) × ((written c w x first recipe bits clauses).clauses ≡ clauses)
 unfolding written
 writing_refused c w x first recipe bits clauses r e =
@@ -147,12 +143,12 @@ writing_refused c w x first recipe bits clauses r e =
 
 -- ---- which line is bad
 
-pub bad_line_told : (c : ℕ) (recipe : List ℕ) (r : Refusal) → checked c recipe ≡ Refused r
+pub bad_line_told : (c : ℕ) (recipe : List ℕ) (r : Refusal) → checked c recipe ≡ Err r
     → 4 ≤ refusal_number r → refusal_number r ≤ 7 → FirstBad recipe (told r)
 bad_line_told c recipe = refused_first_bad recipe c
 
 pub told_of_bad_line : (c : ℕ) (recipe : List ℕ) → 1 ≤ c → c ≤ 65535 → length recipe % 5 ≡ 0 → length recipe ≤ 160
-    → (t : Told) → FirstBad recipe t → checked_told (checked c recipe) ≡ t
+    → (t : Told) → FirstBad recipe t → told_of (checked c recipe) ≡ t
 told_of_bad_line c recipe = first_bad_told recipe c
 
 pub value_fits : (recipe : List ℕ) (t : Told) → FirstBad recipe t → nat_abs t.value < 2 ^ 51
@@ -160,24 +156,24 @@ value_fits = value_bits
 
 module _ (c w : ℕ) (x : List ℤ) (first : ℕ) (recipe : List ℕ) (bits clauses : List ℤ) (r : Refusal) where
   -- where width and literals are right, a refusal of checking is writing's own
-  pub writing_as_checking : not_a_width w ≡ false → not_literals w x first ≡ false → checked c recipe ≡ Refused r
-      → (written c w x first recipe bits clauses).answer ≡ write-answers.Refused r
+  pub writing_as_checking : not_a_width w ≡ false → not_literals w x first ≡ false → checked c recipe ≡ Err r
+      → (written c w x first recipe bits clauses).answer ≡ Err r
   writing_as_checking width literals e =
       answer_of c w x first recipe bits clauses ∙ refused_alike c w x first recipe (length bits) (length clauses) width literals r e
 
   -- and a refusal of writing by a line's rule is checking's own
-  pub checking_as_writing : (written c w x first recipe bits clauses).answer ≡ write-answers.Refused r
-      → 4 ≤ refusal_number r → refusal_number r ≤ 7 → checked c recipe ≡ Refused r
+  pub checking_as_writing : (written c w x first recipe bits clauses).answer ≡ Err r
+      → 4 ≤ refusal_number r → refusal_number r ≤ 7 → checked c recipe ≡ Err r
   checking_as_writing e =
       line_refused_alike c w x first recipe (length bits) (length clauses) r (sym (answer_of c w x first recipe bits clauses) ∙ e)
 
-  pub bad_line_told_writing : (written c w x first recipe bits clauses).answer ≡ write-answers.Refused r
+  pub bad_line_told_writing : (written c w x first recipe bits clauses).answer ≡ Err r
       → 4 ≤ refusal_number r → refusal_number r ≤ 7 → FirstBad recipe (told r)
   bad_line_told_writing e h h' = bad_line_told c recipe r (checking_as_writing e h h') h h'
 
 -- document 01's call has right literals at every width from 1 to 16
 pub plain_as_checking : (c w : ℕ) (recipe : List ℕ) (bits clauses : List ℤ) (r : Refusal)
-    → not_a_width w ≡ false → checked c recipe ≡ Refused r → (plain_written c w recipe bits clauses).answer ≡ write-answers.Refused r
+    → not_a_width w ≡ false → checked c recipe ≡ Err r → (plain_written c w recipe bits clauses).answer ≡ Err r
 plain_as_checking c w recipe bits clauses r width =
     writing_as_checking c w (numbered 1 w) (suc w) recipe bits clauses r width (literals_pass c w recipe)
 
@@ -189,14 +185,14 @@ pub number_alone : (r : Refusal) → (4 ≤ refusal_number r → refusal_number 
 number_alone = number_only
 
 -- what a planning tells, if it refuses
-abbrev Alone : plan-types.Planned → Type 0
-Alone (plan-answers.Lines n) = Unit {0}
-Alone (plan-answers.Refused r) = NumberAlone r
+abbrev Alone : plan.Planned → Type 0
+Alone (Ok n) = Unit {0}
+Alone (Err r) = NumberAlone r
 
 plan_alone : (t : ℕ → ℕ) (c work recipe : ℕ) → Alone (plan_answer t c work recipe)
 unfolding plan_answer
 plan_alone t c work recipe =
-    of_answer Alone plan-answers.Refused _ tt (plan.plan_tests c work recipe) (
+    of_answer Alone Err _ tt (plan.plan_tests c work recipe) (
       of_test NumberAlone (out_of_range c) Constant (refl, refl),
       (
         of_test NumberAlone (ltb work (2 ^ (odd_bits c - 1))) WorkRoom (refl, refl),
@@ -204,12 +200,12 @@ plan_alone t c work recipe =
       ),
     )
 
-plan_by_answer : (t : ℕ → ℕ) (a : plan-types.Planned) (c : ℕ) (work recipe : List ℕ) → (plan_by t a c work recipe).answer ≡ a
-plan_by_answer t (plan-answers.Lines n) c work recipe = refl
-plan_by_answer t (plan-answers.Refused x) c work recipe = refl
+plan_by_answer : (t : ℕ → ℕ) (a : plan.Planned) (c : ℕ) (work recipe : List ℕ) → (plan_by t a c work recipe).answer ≡ a
+plan_by_answer t (Ok n) c work recipe = refl
+plan_by_answer t (Err x) c work recipe = refl
 
 pub planning_number_alone : (c : ℕ) (work recipe : List ℕ) (r : Refusal)
-    → (planned c work recipe).answer ≡ plan-answers.Refused r → NumberAlone r
+    → (planned c work recipe).answer ≡ Err r → NumberAlone r
 unfolding planned plan.plan_outcome
 planning_number_alone c work recipe r e =
     let a = plan_answer split_of c (length work) (length recipe) in
@@ -217,17 +213,17 @@ planning_number_alone c work recipe r e =
 
 -- ---- demand 2
 
-pub accepted_exactly : (c : ℕ) (recipe : List ℕ) → (checked c recipe ≡ Accepted → Right c recipe)
-    × (Right c recipe → checked c recipe ≡ Accepted)
+pub accepted_exactly : (c : ℕ) (recipe : List ℕ) → (checked c recipe ≡ Ok tt → Right c recipe)
+    × (Right c recipe → checked c recipe ≡ Ok tt)
 accepted_exactly c recipe = (accepted_right c recipe, right_accepted c recipe)
 
 -- an answer and two rooms at exit that meet writing's contract, for an accepted recipe in rooms that suffice
 module _ (c w : ℕ) (x : List ℤ) (first : ℕ) (recipe : List ℕ) (bits clauses : List ℤ) (answer : Written) (bits' clauses' : List ℤ)
     (meets : writing answer bits' clauses' ≡ written c w x first recipe bits clauses)
-    (accepted : checked c recipe ≡ Accepted) (some : 1 ≤ w) (few : w ≤ 16) (literals : not_literals w x first ≡ false)
+    (accepted : checked c recipe ≡ Ok tt) (some : 1 ≤ w) (few : w ≤ 16) (literals : not_literals w x first ≡ false)
     (next_fits : (product_of c x first recipe).next ≤ most_next) (bits_fit : y_length c w ≤ length bits)
     (clauses_fit : length (clause_words (product_of c x first recipe)) ≤ length clauses) where
-  succeeds : written_number answer ≡ 0
+  succeeds : number_of answer ≡ 0
   succeeds =
       let l = literals_of w x first literals in
       not_refused c w x first recipe bits clauses answer bits' clauses' meets accepted some few l.0 l.1 next_fits bits_fit clauses_fit
@@ -250,7 +246,7 @@ module _ (c w : ℕ) (x : List ℤ) (first : ℕ) (recipe : List ℕ) (bits clau
 
 -- any outcome of writing that is no refusal
 module _ (c w : ℕ) (x : List ℤ) (first : ℕ) (recipe : List ℕ) (bits clauses : List ℤ) (answer : Written) (bits' clauses' : List ℤ)
-    (meets : writing answer bits' clauses' ≡ written c w x first recipe bits clauses) (success : written_number answer ≡ 0) where
+    (meets : writing answer bits' clauses' ≡ written c w x first recipe bits clauses) (success : number_of answer ≡ 0) where
   pub no_variable_twice : AllDistinct (clauses_of (words_at_exit answer clauses'))
   no_variable_twice = product-demands.no_variable_twice c w x first recipe bits clauses answer bits' clauses' meets success
 
@@ -266,14 +262,14 @@ module _ (c w : ℕ) (recipe : List ℕ) (bits clauses : List ℤ) (answer : Wri
       ap (λ (o : Writing). o.answer) meets ∙ answer_of c w (numbered 1 w) (suc w) recipe bits clauses
       ∙ plain_order c w recipe (length bits) (length clauses)
 
-  module _ (success : written_number answer ≡ 0) where
+  module _ (success : number_of answer ≡ 0) where
     pub plain_each_input : (v : ℕ) → v < 2 ^ w
         → PlainDemand2 c w v (next_free answer - 1) (words_at_exit answer clauses') (entries_at_exit answer bits')
     plain_each_input = plain_demand_2 c w recipe bits clauses answer bits' clauses' meets success
 
     -- the same recipe written over other literals, from another number on and in other rooms
     pub other_names : (x : List ℤ) (first : ℕ) (bits₂ clauses₂ : List ℤ) (answer₂ : Written) (bits₂' clauses₂' : List ℤ)
-        → writing answer₂ bits₂' clauses₂' ≡ written c w x first recipe bits₂ clauses₂ → written_number answer₂ ≡ 0
+        → writing answer₂ bits₂' clauses₂' ≡ written c w x first recipe bits₂ clauses₂ → number_of answer₂ ≡ 0
         → Renamed x first answer bits' clauses' answer₂ bits₂' clauses₂'
     other_names = renamed c w recipe bits clauses answer bits' clauses' meets success
 
@@ -287,7 +283,7 @@ module _ (c : ℕ) (least : 1 ≤ c) (most : c ≤ 65535) where
   abbrev ks : List ℕ
   ks = coefficients split_of (odd_part c)
 
-  pub planned_is_right : checked c bytes ≡ Accepted
+  pub planned_is_right : checked c bytes ≡ Ok tt
   planned_is_right = planned_accepted c least most
 
   -- line i + 1 claims the i-th coefficient, no coefficient stands twice, and they are the members of the set
@@ -307,7 +303,7 @@ module _ (c : ℕ) (least : 1 ≤ c) (most : c ≤ 65535) where
   few_lines = (planned_lines_half c least most, planned_lines_form c least most)
 
   pub few_clauses : (w : ℕ) (x : List ℤ) (first : ℕ) (bits clauses : List ℤ) (answer : Written) (bits' clauses' : List ℤ)
-      → writing answer bits' clauses' ≡ written c w x first bytes bits clauses → written_number answer ≡ 0
+      → writing answer bits' clauses' ≡ written c w x first bytes bits clauses → number_of answer ≡ 0
       → length (clauses_of (words_at_exit answer clauses')) ≤ 14 * (odd_bits c + w) * (length bytes / 5)
   few_clauses w x first bits clauses answer bits' clauses' meets z =
       demand_3_clauses c w x first bytes bits clauses answer bits' clauses' meets z (odd_bits c) (planned_bits c least most)
@@ -324,24 +320,24 @@ module _ (ws gs : List ℤ) (allowance : ℕ) (room : List ℕ) where
   abbrev values : List ℕ
   values = (propagated ws gs allowance room).room
 
-  pub pass_refused : (x : Refusal) → answer_of_pass ≡ pass-answers.Refused x → values ≡ room
+  pub pass_refused : (x : Refusal) → answer_of_pass ≡ Err x → values ≡ room
   pass_refused = refused_room ws gs allowance room
 
-  pub pass_started : ((propagated_number answer_of_pass ≡ 26 → ⊥) → (all_unknown room ≡ true) × DistinctBelow (suc (length room)) gs)
-      × ((all_unknown room ≡ true) × DistinctBelow (suc (length room)) gs → propagated_number answer_of_pass ≡ 26 → ⊥)
+  pub pass_started : ((number_of answer_of_pass ≡ 26 → ⊥) → (all_unknown room ≡ true) × DistinctBelow (suc (length room)) gs)
+      × ((all_unknown room ≡ true) × DistinctBelow (suc (length room)) gs → number_of answer_of_pass ≡ 26 → ⊥)
   pass_started = (given_right ws gs allowance room, λ h e. refused_26 ws gs allowance room e h.0 h.1)
 
-  pub pass_counted : (n : ℕ) → answer_of_pass ≡ pass-answers.Read n → n ≡ length (clauses_of ws)
+  pub pass_counted : (n : ℕ) → answer_of_pass ≡ Ok n → n ≡ length (clauses_of ws)
   pass_counted = count_read ws gs allowance room
 
   -- where it does not refuse by 26, it speaks of every assignment in which the given literals and the clauses hold
-  speaks : (propagated_number answer_of_pass ≡ 26 → ⊥) → (α : Assignment) → GivenTrue α gs → satisfies_words α ws ≡ true
+  speaks : (number_of answer_of_pass ≡ 26 → ⊥) → (α : Assignment) → GivenTrue α gs → satisfies_words α ws ≡ true
       → Sound α (propagated ws gs allowance room)
   speaks f = sound ws gs allowance room (given_right ws gs allowance room f).0
 
-  pub pass_forced : (n : ℕ) → answer_of_pass ≡ pass-answers.Read n → (α : Assignment) → GivenTrue α gs → satisfies_words α ws ≡ true
+  pub pass_forced : (n : ℕ) → answer_of_pass ≡ Ok n → (α : Assignment) → GivenTrue α gs → satisfies_words α ws ≡ true
       → Agrees α values
-  pass_forced n e α t s = (speaks (λ f. omega (arith, ap propagated_number e, f)) α t s).agrees
+  pass_forced n e α t s = (speaks (λ f. omega (arith, ap number_of e, f)) α t s).agrees
 
-  pub conflict_real : propagated_number answer_of_pass ≡ 22 → (α : Assignment) → GivenTrue α gs → satisfies_words α ws ≡ true → ⊥
+  pub conflict_real : number_of answer_of_pass ≡ 22 → (α : Assignment) → GivenTrue α gs → satisfies_words α ws ≡ true → ⊥
   conflict_real e α t s = (speaks (λ f. omega (arith, e, f)) α t s).no_conflict e

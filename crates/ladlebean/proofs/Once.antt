@@ -7,6 +7,8 @@ use mathlib.Core.List.{List}
 use lib.IntN.{ℤ}
 use contract.Lifetimes.{Lfts}
 use denote.Triple.Clauses.{AtExit}
+use denote.RattleType.{RattleType}
+use denote.Param.Laws.{Laws}
 use borrow.Fn.Kinds.{ParamKind, ResultKind, Out, Dens, res_t, ended_of}
 use Rattle.line.proofs.Line.read.Kinds as LineReadKinds
 use Rattle.line.proofs.Line.read.Reads as LineRead
@@ -28,6 +30,10 @@ use Rattle.line.proofs.Line.gives.Kinds as LineGivesKinds
 use Rattle.line.proofs.Line.gives.Reads as LineGives
 use Rattle.line.proofs.magnitude.Kinds as MagnitudeKinds
 use Rattle.line.proofs.magnitude.Reads as Magnitude
+use Rattle.line.proofs.told_of.Kinds as ToldOfKinds
+use Rattle.line.proofs.told_of.Reads as ToldOf
+use Rattle.line.proofs.number_of.Kinds as NumberOfKinds
+use Rattle.line.proofs.number_of.Reads as NumberOf
 use Rattle.line.proofs.Refusal.told.Kinds as RefusalToldKinds
 use Rattle.line.proofs.Refusal.told.Reads as RefusalTold
 use Rattle.line.proofs.Refusal.number.Kinds as RefusalNumberKinds
@@ -36,19 +42,13 @@ use Rattle.recipe.proofs.check.Kinds as CheckKinds
 use Rattle.recipe.proofs.check.Reads as Check
 use Rattle.recipe.proofs.check_lines.Kinds as CheckLinesKinds
 use Rattle.recipe.proofs.check_lines.Reads as CheckLines
-use Rattle.recipe.proofs.Checked.told.Kinds as CheckedToldKinds
-use Rattle.recipe.proofs.Checked.told.Reads as CheckedTold
 use Rattle.plan.specs.Plan.{Planning}
 use Rattle.plan.proofs.plan.Kinds as PlanKinds
 use Rattle.plan.proofs.plan.Reads as Plan
-use Rattle.plan.proofs.Planned.number.Kinds as PlannedNumberKinds
-use Rattle.plan.proofs.Planned.number.Reads as PlannedNumber
-use Rattle.plan.proofs.Planned.lines.Kinds as PlannedLinesKinds
-use Rattle.plan.proofs.Planned.lines.Reads as PlannedLines
-use Rattle.product.proofs.Written.told.Kinds as WrittenToldKinds
-use Rattle.product.proofs.Written.told.Reads as WrittenTold
-use Rattle.product.proofs.Written.counts.Kinds as WrittenCountsKinds
-use Rattle.product.proofs.Written.counts.Reads as WrittenCounts
+use Rattle.plan.proofs.lines_of.Kinds as PlannedLinesKinds
+use Rattle.plan.proofs.lines_of.Reads as PlannedLines
+use Rattle.product.proofs.counts_of.Kinds as WrittenCountsKinds
+use Rattle.product.proofs.counts_of.Reads as WrittenCounts
 use Rattle.gates.proofs.flipped.Kinds as FlippedKinds
 use Rattle.gates.proofs.flipped.Reads as Flipped
 use Rattle.gates.proofs.word.Kinds as WordKinds
@@ -59,10 +59,8 @@ use Rattle.cnf.proofs.named.Kinds as NamedKinds
 use Rattle.cnf.proofs.named.Reads as Named
 use Rattle.propagate.proofs.propagate.Kinds as PropagateKinds
 use Rattle.propagate.proofs.propagate.Reads as Propagate
-use Rattle.propagate.proofs.Propagated.number.Kinds as PropagatedNumberKinds
-use Rattle.propagate.proofs.Propagated.number.Reads as PropagatedNumber
-use Rattle.propagate.proofs.Propagated.clauses.Kinds as PropagatedClausesKinds
-use Rattle.propagate.proofs.Propagated.clauses.Reads as PropagatedClauses
+use Rattle.propagate.proofs.clauses_of.Kinds as PropagatedClausesKinds
+use Rattle.propagate.proofs.clauses_of.Reads as PropagatedClauses
 use Rattle.write.proofs.write_plain.Kinds as WritePlainKinds
 use Rattle.write.proofs.write_plain.Reads as WritePlain
 use Rattle.write.proofs.write.Kinds as WriteKinds
@@ -72,7 +70,7 @@ use Rattle.dimacs.proofs.file.Reads as File
 use Rattle.propagate.specs.Pass.{Propagating}
 use Rattle.wording.specs.Print.{Printing}
 use Rattle.product.specs.Write.{Writing, writing}
-use Rattle.product.specs.declared.Written.{Written}
+use Rattle.product.specs.Write.{Written}
 use Rattle.ladlebean.proofs.Apart.{told_once, apart_once}
 use Rattle.ladlebean.proofs.ladlebean_check.Kinds as ArchiveCheckKinds
 use Rattle.ladlebean.proofs.ladlebean_check.Reads as ArchiveCheck
@@ -133,14 +131,17 @@ refusal_told_once κs a x y e f p q = p.0 ∙ sym q.0
 pub refusal_number_once : Answers RefusalNumberKinds.ps RefusalNumberKinds.r RefusalNumber.Learnt
 refusal_number_once κs a x y e f p q = p.0 ∙ sym q.0
 
+pub told_of_once : (A : RattleType) (h : Laws A) → Answers (ToldOfKinds.ps A h) (ToldOfKinds.r A h) (ToldOf.Learnt A h)
+told_of_once A h κs a x y e f p q = p ∙ sym q
+
+pub number_of_once : (A : RattleType) (h : Laws A) → Answers (NumberOfKinds.ps A h) (NumberOfKinds.r A h) (NumberOf.Learnt A h)
+number_of_once A h κs a x y e f p q = p.0 ∙ sym q.0
+
 pub check_once : Answers CheckKinds.ps CheckKinds.r Check.Learnt
 check_once κs a x y e f p q = p ∙ sym q
 
 pub check_lines_once : Answers CheckLinesKinds.ps CheckLinesKinds.r CheckLines.Learnt
 check_lines_once κs a x y e f p q = p ∙ sym q
-
-pub checked_told_once : Answers CheckedToldKinds.ps CheckedToldKinds.r CheckedTold.Learnt
-checked_told_once κs a x y e f p q = p ∙ sym q
 
 pub plan_once : Coincide PlanKinds.ps PlanKinds.r Plan.Learnt
     (λ κs x y e f. (x ≡ y) × (e.1.0.now ≡ f.1.0.now) × (e.1.1.0.now ≡ f.1.1.0.now))
@@ -148,14 +149,8 @@ plan_once κs a x y e f p q =
     let z = p ∙ sym q in
     (ap (λ (o : Planning). o.answer) z, ap (λ (o : Planning). o.work) z, ap (λ (o : Planning). o.recipe) z)
 
-pub planned_number_once : Answers PlannedNumberKinds.ps PlannedNumberKinds.r PlannedNumber.Learnt
-planned_number_once κs a x y e f p q = p.0 ∙ sym q.0
-
 pub planned_lines_once : Answers PlannedLinesKinds.ps PlannedLinesKinds.r PlannedLines.Learnt
 planned_lines_once κs a x y e f p q = p ∙ sym q
-
-pub written_told_once : Answers WrittenToldKinds.ps WrittenToldKinds.r WrittenTold.Learnt
-written_told_once κs a x y e f p q = p ∙ sym q
 
 pub written_counts_once : Answers WrittenCountsKinds.ps WrittenCountsKinds.r WrittenCounts.Learnt
 written_counts_once κs a x y e f p q = p ∙ sym q
@@ -232,9 +227,6 @@ pub archive_write_plain_once : Coincide ArchiveWritePlainKinds.ps ArchiveWritePl
     × (e.1.1.1.1.1.1.1.1.1.0.now ≡ f.1.1.1.1.1.1.1.1.1.0.now)
     × (e.1.1.1.1.1.1.1.1.1.1.0.now ≡ f.1.1.1.1.1.1.1.1.1.1.0.now))
 archive_write_plain_once κs a x y e f p q = apart_once p q
-
-pub propagated_number_once : Answers PropagatedNumberKinds.ps PropagatedNumberKinds.r PropagatedNumber.Learnt
-propagated_number_once κs a x y e f p q = p.0 ∙ sym q.0
 
 pub propagated_clauses_once : Answers PropagatedClausesKinds.ps PropagatedClausesKinds.r PropagatedClauses.Learnt
 propagated_clauses_once κs a x y e f p q = p ∙ sym q

@@ -13,14 +13,15 @@ use borrow.Author.Tests.{eq-eqb, eqb-true, eqb-false}
 use lib.Dec.{eqb}
 use lib.IntN.{ℤ, pos, negsuc}
 use lib.ListN.{length}
+use Rattle.line.specs.Refusal.{number_of}
 use Rattle.cnf.specs.Clause.{Clause}
 use Rattle.cnf.specs.Words.{named, names, DistinctBelow}
 use Rattle.cnf.proofs.Words.{clauses_of_words, names_either, names_first, names_later}
 use Rattle.product.specs.Bit.{num}
 use Rattle.product.specs.Product.{product_of, clause_words}
-use Rattle.product.specs.Write.{written_number, clauses_written, next_free, writing, written}
+use Rattle.product.specs.Write.{clauses_written, next_free, writing, written}
 use Rattle.product.specs.Demand.{entry_value, entries_read, words_at_exit, entries_at_exit}
-use Rattle.product.specs.declared.Written.{Written}
+use Rattle.product.specs.Write.{Written}
 use Rattle.product.proofs.Given.{given_named}
 use Rattle.product.proofs.WordsMean.{entries_multiply}
 use Rattle.product.proofs.AcceptedMeans.{product_by, product_of_multiplies}
@@ -106,7 +107,7 @@ number_there first room gs (l ∷ x) d t f =
 -- ---- the theorem
 
 module _ (c w : ℕ) (x : List ℤ) (first : ℕ) (recipe : List ℕ) (bits clauses : List ℤ) (answer : Written) (bits' clauses' : List ℤ)
-    (meets : writing answer bits' clauses' ≡ written c w x first recipe bits clauses) (succeeds : written_number answer ≡ 0)
+    (meets : writing answer bits' clauses' ≡ written c w x first recipe bits clauses) (succeeds : number_of answer ≡ 0)
     (gs : List ℤ) (distinct : DistinctBelow first gs) (every : (v : ℕ) → names v x ≡ true → names v gs ≡ true)
     (allowance : ℕ) (enough : clauses_written answer ≤ allowance)
     (room : List ℕ) (unknown : all_unknown room ≡ true) (long : next_free answer ≤ suc (length room)) where

@@ -3,20 +3,21 @@
 
 #![tactic(auto)]
 
+ghost use Rattle.line.specs.Refusal.{told_of};
 ghost use Rattle.plan.specs.Plan.{planned};
-ghost use Rattle.recipe.specs.Check.{checked, checked_told};
+ghost use Rattle.recipe.specs.Check.{checked};
 ghost use Rattle.product.specs.Write.{written, plain_written};
 ghost use Rattle.propagate.specs.Pass.{propagated};
 ghost use Rattle.ladlebean.specs.Archive.{ToldApart, PlanApart, Fields, Apart, PassApart};
 
-use line::Told;
-use product::Written;
+use line::{Refusal, Told};
+use product::Counts;
 
 // Whether a recipe is right for c: 0, or the refusal's number, with the bad line and the value that it gives.
 pub fn ladlebean_check(c: u64, recipe: &[u8], line: &mut u64, value: &mut i64) -> u64
-    ensures { ToldApart (checked_told (checked c recipe.now)) result line.new value.new }
+    ensures { ToldApart (told_of (checked c recipe.now)) result line.new value.new }
 {
-    tell(recipe::check(c, recipe).told(), line, value)
+    tell(line::told_of(&recipe::check(c, recipe)), line, value)
 }
 
 // Plans a recipe for c: 0, or the refusal's number, with the number of lines.
@@ -25,8 +26,9 @@ pub fn ladlebean_plan(c: u64, work: &mut [u8], recipe: &mut [u8], lines: &mut u6
         lines.new }
 {
     let planned = plan::plan(c, work, recipe);
-    *lines = planned.lines() as u64;
-    planned.number()
+    // Here and below: usize has no From to u64.
+    *lines = plan::lines_of(planned) as u64;
+    line::number_of(&planned)
 }
 
 // Writes the clauses of a recipe for c at width w, where x is w literals and first the first free number: 0, or the refusal's number,
@@ -88,8 +90,8 @@ pub fn ladlebean_propagate(
         values.new clauses.new }
 {
     let propagated = propagate::propagate(words, given, allowance, values);
-    *clauses = propagated.clauses();
-    propagated.number()
+    *clauses = propagate::clauses_of(propagated);
+    line::number_of(&propagated)
 }
 
 // The number, with the line and the value apart.
@@ -97,14 +99,13 @@ fn tell(told: Told, line: &mut u64, value: &mut i64) -> u64
     ensures { ToldApart told result line.new value.new }
 {
     *line = told.line as u64;
-    let z = told.value; // a field with a sign goes through a local
-    *value = z;
+    *value = told.value;
     told.number
 }
 
-// The number of what was written, with its counts, the line and the value apart.
+// The number of what was written, with its counts, the line and the value apart. Each is a reference of its own, since C has them so.
 fn tell_written(
-    written: Written,
+    written: Result<Counts, Refusal>,
     words: &mut u64,
     count: &mut u64,
     next: &mut u64,
@@ -115,10 +116,10 @@ fn tell_written(
     ensures { Fields written result words.new count.new next.new size.new line.new
         value.new }
 {
-    let counts = written.counts();
+    let counts = product::counts_of(written);
     *words = counts.words as u64;
     *count = counts.clauses as u64;
-    *next = counts.next as u64;
+    *next = u64::from(counts.next);
     *size = counts.bits as u64;
-    tell(written.told(), line, value)
+    tell(line::told_of(&written), line, value)
 }

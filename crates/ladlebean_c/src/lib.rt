@@ -3,8 +3,9 @@
 
 #![tactic(auto)]
 
+ghost use Rattle.line.specs.Refusal.{told_of};
 ghost use Rattle.plan.specs.Plan.{planned};
-ghost use Rattle.recipe.specs.Check.{checked, checked_told};
+ghost use Rattle.recipe.specs.Check.{checked};
 ghost use Rattle.product.specs.Write.{written, plain_written};
 ghost use Rattle.propagate.specs.Pass.{propagated};
 ghost use Rattle.ladlebean.specs.Archive.{ToldApart, PlanApart, Apart, PassApart};
@@ -12,7 +13,7 @@ ghost use Rattle.ladlebean.specs.Archive.{ToldApart, PlanApart, Apart, PassApart
 // Whether a recipe is right for c: 0, or the refusal's number, with the bad line and the value that it gives.
 #[unsafe(no_mangle)]
 pub extern "C" fn ladlebean_check(c: u64, recipe: &[u8], line: &mut u64, value: &mut i64) -> u64
-    ensures { ToldApart (checked_told (checked c recipe.now)) result line.new value.new }
+    ensures { ToldApart (told_of (checked c recipe.now)) result line.new value.new }
 {
     ladlebean::ladlebean_check(c, recipe, line, value)
 }

@@ -1,6 +1,6 @@
 -- What a refusal tells: the documents' number, the line that is bad, counted from 1, and the value that this line really gives (document
 -- 02 c). A refusal that speaks of no line tells line 0, and one that speaks of no value tells 0.
-use Rattle.std.specs.Prelude.{ℕ, ℤ, pos}
+use Rattle.std.specs.Prelude.{ℕ, ℤ, pos, Result, Ok, Err}
 use Rattle.line.specs.declared.Told.{Told}
 use Rattle.line.specs.declared.Refusal.{Refusal}
 use Rattle.line.specs.declared.Refusal.TheVariants.{Constant, Width, Length, Form, Operand, Even, Value, Product, BitRoom}
@@ -44,3 +44,12 @@ refusal_value x = (told x).value
 -- what success tells
 abbrev pub nothing : Told
 nothing = about 0 0
+
+-- what an answer tells, of whatever a success answers
+abbrev pub told_of : {A : Type 0} → Result A Refusal → Told
+told_of (Ok a) = nothing
+told_of (Err x) = told x
+
+-- its number, 0 for success
+abbrev pub number_of : {A : Type 0} → Result A Refusal → ℕ
+number_of a = (told_of a).number

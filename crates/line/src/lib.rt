@@ -6,10 +6,10 @@ ghost use Rattle.std.specs.Prelude.{◌≡◌, ◌+◌, ◌*◌, ◌%◌, ◌<�
 ghost use Rattle.line.specs.Number.{bit_length, twos, odd_part};
 ghost use Rattle.line.specs.Line.{gives_within, number, line_of, forty_bits, bytes_of};
 ghost use Rattle.line.specs.Limits.{out_of_range, not_a_width};
-ghost use Rattle.line.specs.Refusal.{told, refusal_number};
+ghost use Rattle.line.specs.Refusal.{told, refusal_number, told_of, number_of};
 
 // The fields of a line in the order of its forty bits.
-#[derive(Clone, Copy)]
+#[derive(Clone, Copy, Debug, PartialEq, Eq)]
 pub struct Line {
     pub top: u64,
     pub kind: u64,
@@ -20,6 +20,7 @@ pub struct Line {
 }
 
 impl Line {
+    // The kinds are numbers and constants here, and no enum: document 01's form at this place, as are shifts and masks for the fields.
     pub const SPLUS: u64 = 1;
 
     pub const SMINUS: u64 = 2;
@@ -65,13 +66,11 @@ impl Line {
         let s = self.shift % 32;
         let left = l % (Line::MOST_COEFFICIENT + 1);
         let right = r % (Line::MOST_COEFFICIENT + 1);
-        if kind == Line::SPLUS {
-            return (shifted(left, s) + right) as i64;
+        match kind {
+            Line::SPLUS => (shifted(left, s) + right) as i64,
+            Line::SMINUS => difference(shifted(left, s), right),
+            _ => difference(left, shifted(right, s)),
         }
-        if kind == Line::SMINUS {
-            return difference(shifted(left, s), right);
-        }
-        difference(left, shifted(right, s))
     }
 
     // The line that five bytes are; a byte that is missing counts as 0.
@@ -136,10 +135,7 @@ fn byte_below(v: u64, part: &[u8], i: usize) -> u64
     requires { v < 2 ^ 32 }
     ensures { (result ≡ v * 256 + get_or part.now i 0) × (result < v * 256 + 256) }
 {
-    if i < part.len() {
-        return join(v, 8, part[i] as u64);
-    }
-    join(v, 8, 0)
+    join(v, 8, u64::from(part.get(i).copied().unwrap_or(0)))
 }
 
 // The number that five bytes are, most significant first.
@@ -167,7 +163,7 @@ fn unpacked(v: u64) -> Line
     }
 }
 
-// The number of binary digits of v.
+// The number of binary digits of v. Between usize and u64, and to a narrower type, there is no From, so here and above it is `as`.
 pub fn bit_length(v: u64) -> usize
     ensures { (result ≡ bit_length v) × (result ≤ 64) }
 {
@@ -195,36 +191,26 @@ pub fn odd_part(c: u64) -> u64
 pub fn out_of_range(c: u64) -> bool
     ensures { result ≡ out_of_range c }
 {
-    if c == 0 {
-        return true;
-    }
-    Line::MOST_CONSTANT < c
+    c == 0 || Line::MOST_CONSTANT < c
 }
 
 // Whether rule 2 refuses w.
 pub fn not_a_width(w: u32) -> bool
     ensures { result ≡ not_a_width w }
 {
-    if w == 0 {
-        return true;
-    }
-    Line::MOST_WIDTH < w as u64
+    w == 0 || Line::MOST_WIDTH < u64::from(w)
 }
 
-// The magnitude of a number with a sign; the least one has no negation of its own.
+// The magnitude of a number with a sign, the least one too.
 pub fn magnitude(z: i64) -> u64
     ensures { result ≡ nat_abs z }
 {
-    if z < 0 {
-        let above = z + 1;
-        return (0 - above) as u64 + 1;
-    }
-    z as u64
+    z.unsigned_abs()
 }
 
 // Why a call refuses: document 01's list, in its order, and then document 02's. Those that speak of a recipe's line hold its number, from 1
 // on, and the last of them the value that the line really gives.
-#[derive(Clone, Copy)]
+#[derive(Clone, Copy, Debug, PartialEq, Eq)]
 pub enum Refusal {
     Constant,
     Width,
@@ -247,15 +233,8 @@ pub enum Refusal {
     Given,
 }
 
-// What one test of a call says: nothing against it, or why the call refuses.
-#[derive(Clone, Copy)]
-pub enum Verdict {
-    Kept,
-    Broken(Refusal),
-}
-
-// What an answer tells of a refusal: the documents' number, the line and the value; zero where there is none.
-#[derive(Clone, Copy)]
+// What an answer tells of a refusal: the documents' number, the line and the value; zero where there is none, since C gets these numbers.
+#[derive(Clone, Copy, Debug, PartialEq, Eq)]
 pub struct Told {
     pub number: u64,
     pub line: usize,
@@ -304,5 +283,25 @@ impl Refusal {
         ensures { (result ≡ refusal_number self) × (result < 100) }
     {
         self.told().number
+    }
+}
+
+// What an answer tells: of a refusal what it tells, of a success nothing.
+pub fn told_of<T>(answer: &Result<T, Refusal>) -> Told
+    ensures { result ≡ told_of answer.now }
+{
+    match answer {
+        Ok(_) => tell(0, 0, 0),
+        Err(x) => x.told(),
+    }
+}
+
+// The documents' number, 0 for success.
+pub fn number_of<T>(answer: &Result<T, Refusal>) -> u64
+    ensures { (result ≡ number_of answer.now) × (result < 100) }
+{
+    match answer {
+        Ok(_) => 0,
+        Err(x) => x.number(),
     }
 }

@@ -8,6 +8,7 @@
 -- Why. Each coefficient x of the set has a legal split, whose operands are 1 or in the set, and come earlier in the order; so the line of
 -- x names earlier lines, which claim these operands, and the split's equation is the kind's. d itself comes last. All but the number of
 -- lines holds for every lookup of legal splits.
+use Rattle.std.specs.Prelude.{Ok}
 use Prim.Native.Nat.{ℕ, suc, ◌-◌, ◌*◌, ◌/◌, ◌%◌, ◌≤◌, ◌<◌}
 use mathlib.Core.Path.{◌≡◌, refl, sym, ap, ap₂, ◌∙◌, subst}
 use mathlib.Core.Bool.{true}
@@ -20,7 +21,6 @@ use lib.ListN.{length, get_or}
 use borrow.Author.Tests.{leb-true}
 use Rattle.recipe.specs.Check.{line_at, coefficient_at, checked}
 use Rattle.recipe.specs.Accepted.{LineRight, Makes}
-use Rattle.recipe.specs.declared.Checked.TheVariants.{Accepted}
 use Rattle.recipe.proofs.Accepted.{right_accepted}
 use Rattle.line.proofs.RoundTrip as round
 use Rattle.line.specs.Limits.{line_bytes, most_bits, most_constant, most_lines}
@@ -244,7 +244,7 @@ module _ (c : ℕ) (least : 1 ≤ c) (most : c ≤ most_constant) where
   d_short = omega (arith, lines_half d d_odd (omega (arith, d_few)), d_few)
 
   -- the check accepts the planned recipe
-  pub planned_accepted : checked c (lines_bytes (recipe_for split_of d)) ≡ Accepted
+  pub planned_accepted : checked c (lines_bytes (recipe_for split_of d)) ≡ Ok tt
   planned_accepted = right_accepted c (lines_bytes (recipe_for split_of d))
       (record { least = least; most = most; makes = makes split_of (odd_bits c) (omega (arith, d_few)) d d_root d_short })
 

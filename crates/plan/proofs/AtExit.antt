@@ -1,6 +1,8 @@
 -- What planning answers, and what stands in its rooms then. The four answers shut each other out, so each is given exactly where it says
 -- (`answers`). A refusal leaves both rooms and counts no line (`refused`). In success (`success`) the recipe room's first bytes are the
 -- recipe, the work room has each odd number's split at its place, and all past these stays. Assumes nothing.
+use Rattle.line.specs.Refusal.{number_of}
+use Rattle.std.specs.Prelude.{Ok, Err}
 use Prim.Native.Nat.{ℕ, suc, ◌+◌, ◌-◌, ◌*◌, ◌/◌, ◌%◌, ◌^◌, ◌≤◌, ◌<◌}
 use mathlib.Core.Path.{◌≡◌, refl, sym, ap, ◌∙◌, subst}
 use mathlib.Core.Logic.{◌⊎◌, inl, inr}
@@ -16,16 +18,14 @@ use Rattle.line.specs.Limits.{line_bytes, most_constant, out_of_range}
 use Rattle.line.specs.Number.{bit_length, odd_part}
 use Rattle.line.specs.Order.{refuses, in_order}
 use Rattle.line.specs.declared.Refusal.TheVariants.{Constant, WorkRoom, RecipeRoom}
-use Rattle.line.specs.declared.Verdict.TheVariants.{Kept}
 use Rattle.line.proofs.Number.{bits_pos, lt_bits, odd_part_odd}
 use Rattle.line.proofs.Order.{within}
 use Rattle.line.proofs.Room.{drop_sets, sets_in, take_sets}
 use Rattle.split.specs.Choose.{split_of, splits}
 use Rattle.split.specs.Order.{recipe_for, lines_bytes}
 use Rattle.split.proofs.Table.{splits_at}
-use Rattle.plan.specs.Plan.{Planning, odd_bits, plan_answer, plan_by, plan_outcome, planned, planned_lines, planned_number}
-use Rattle.plan.specs.declared.Planned.{Planned}
-use Rattle.plan.specs.declared.Planned.TheVariants.{Lines, Refused}
+use Rattle.plan.specs.Plan.{Planning, odd_bits, plan_answer, plan_by, plan_outcome, planned, planned_lines}
+use Rattle.plan.specs.Plan.{Planned}
 use Rattle.plan.proofs.Bytes.{bytes_length}
 use Rattle.plan.proofs.Fills.{splits_length}
 use Rattle.plan.proofs.Plans.{Parts, Passed, by_verdict, lines_room, passed_kept, recipe_length}
@@ -47,13 +47,13 @@ outside c e = go (eqb c 0) refl
     go true q = inl (eqb-true c 0 q)
     go false q = inr (ltb-true most_constant c (sym (ap (λ (b : Bool). b || ltb most_constant c) q) ∙ e))
 
-pub answers : (c work recipe : ℕ) → Answers c work recipe (planned_number (plan_answer split_of c work recipe))
+pub answers : (c work recipe : ℕ) → Answers c work recipe (number_of (plan_answer split_of c work recipe))
 unfolding plan_answer
 answers c work recipe = go (out_of_range c) (ltb work (2 ^ (odd_bits c - 1))) (ltb recipe (line_bytes * (odd_bits c / 2))) refl refl refl
   where
     go : (a b d : Bool) → out_of_range c ≡ a → ltb work (2 ^ (odd_bits c - 1)) ≡ b → ltb recipe (line_bytes * (odd_bits c / 2)) ≡ d
-        → Answers c work recipe (planned_number (in_order Refused (refuses a Constant ∷ refuses b WorkRoom ∷ refuses d RecipeRoom ∷ [])
-        (Lines (length (recipe_for split_of (odd_part c))))))
+        → Answers c work recipe (number_of (in_order Err (refuses a Constant ∷ refuses b WorkRoom ∷ refuses d RecipeRoom ∷ [])
+        (Ok (length (recipe_for split_of (odd_part c))))))
     go true b d e f g = inl (outside c e, refl)
     go false true d e f g = let n = within most_constant c e in inr (inl (n.0, n.1, ltb-true _ _ f, refl))
     go false false true e f g =
@@ -64,8 +64,8 @@ answers c work recipe = go (out_of_range c) (ltb work (2 ^ (odd_bits c - 1))) (l
         inr (inr (inr (record { some = n.0; small = n.1; long = ltb-false _ _ f; room = ltb-false _ _ g }, refl)))
 
 by_answer : (t : ℕ → ℕ) (a : Planned) (c : ℕ) (w r : List ℕ) → (plan_by t a c w r).answer ≡ a
-by_answer t (Lines n) c w r = refl
-by_answer t (Refused x) c w r = refl
+by_answer t (Ok n) c w r = refl
+by_answer t (Err x) c w r = refl
 
 pub answer_is : (c : ℕ) (w r : List ℕ) → (planned c w r).answer ≡ plan_answer split_of c (length w) (length r)
 unfolding planned plan_outcome
@@ -73,12 +73,12 @@ answer_is c w r = by_answer split_of (plan_answer split_of c (length w) (length 
 
 -- ---- the rooms
 
-leaves : (t : ℕ → ℕ) (a : Planned) (c : ℕ) (w r : List ℕ) → (planned_number (plan_by t a c w r).answer ≡ 0 → ⊥)
+leaves : (t : ℕ → ℕ) (a : Planned) (c : ℕ) (w r : List ℕ) → (number_of (plan_by t a c w r).answer ≡ 0 → ⊥)
     → ((plan_by t a c w r).work ≡ w) × ((plan_by t a c w r).recipe ≡ r) × (planned_lines (plan_by t a c w r).answer ≡ 0)
-leaves t (Lines n) c w r h = absurd (h refl)
-leaves t (Refused x) c w r h = (refl, refl, refl)
+leaves t (Ok n) c w r h = absurd (h refl)
+leaves t (Err x) c w r h = (refl, refl, refl)
 
-pub refused : (c : ℕ) (w r : List ℕ) → (planned_number (planned c w r).answer ≡ 0 → ⊥)
+pub refused : (c : ℕ) (w r : List ℕ) → (number_of (planned c w r).answer ≡ 0 → ⊥)
     → ((planned c w r).work ≡ w) × ((planned c w r).recipe ≡ r) × (planned_lines (planned c w r).answer ≡ 0)
 unfolding planned plan_outcome
 refused c w r = leaves split_of (plan_answer split_of c (length w) (length r)) c w r
@@ -115,7 +115,7 @@ module _ (c : ℕ) (w r : List ℕ) (h : Passed c (length w) (length r)) where
       let fits : line_bytes * length ls ≤ length r =
       omega (arith, recipe_length split_of (odd_part c), lines_room parts h.room) in
       subst (λ (o : Planning). HoldsPlan c w r (planned_lines o.answer) o.work o.recipe)
-      (sym (by_verdict c w r Kept (passed_kept c (length w) (length r) h)))
+      (sym (by_verdict c w r (Ok tt) (passed_kept c (length w) (length r) h)))
       (record {
         count = refl;
         recipe_holds = take_sets r (lines_bytes ls) (line_bytes * length ls) (bytes_length ls) fits;

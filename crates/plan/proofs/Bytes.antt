@@ -1,14 +1,15 @@
 -- The bytes of lines, one after the other.
-use Prim.Native.Nat.{ℕ, zero, suc, ◌+◌, ◌*◌, ◌/◌, ◌%◌, ◌<◌}
+use Prim.Native.Nat.{ℕ, zero, suc, ◌+◌, ◌*◌, ◌/◌, ◌%◌, ◌≤◌, ◌<◌}
 use mathlib.Core.Path.{◌≡◌, refl, sym, ap, ◌∙◌}
 use mathlib.Core.List.{List, [], ◌∷◌, ◌++◌, map, append_assoc, append-nil}
 use native.Mathlib.Omega.{arith}
-use lib.ListN.{length, take, drop, get_or, set}
-use lib.Seq.{length-take-le, sets}
+use lib.ListN.{length, take, drop, get_or}
+use lib.Seq.{drop-drop, sets, sets-eq}
+use borrow.Rule.Slice.PartMut.{put_mid}
 use Rattle.line.specs.Limits.{line_bytes}
 use Rattle.line.specs.Line.{bytes_of, forty_bits}
 use Rattle.line.specs.declared.Line.{Line}
-use Rattle.line.proofs.Room.{sets_append, store_next}
+use Rattle.line.proofs.Room.{sets_append}
 use Rattle.split.specs.Choose.{look}
 use Rattle.split.specs.Order.{line_for, lines_bytes, operand}
 use Rattle.split.specs.Split.{left, right}
@@ -57,13 +58,10 @@ pub lines_none : (f : ℕ → Line) (room : List ℕ) → room ≡ sets room 0 (
 unfolding lines_bytes
 lines_none f room = refl
 
--- one byte more of b, behind those that were stored from at on
-pub store_more : (l r : List ℕ) (at : ℕ) (b : List ℕ) (i : ℕ) → i < length b → r ≡ sets l at (take i b)
-    → set r (at + i) (get_or b i 0) ≡ sets l at (take (i + 1) b)
-store_more l r at b i h e =
-    ap (λ (z : List ℕ). set z (at + i) (get_or b i 0)) e
-    ∙ store_next l (take i b) (get_or b i 0) at i (length-take-le i b (omega arith))
-    ∙ ap (sets l at) (sym (take_next b i h))
+-- a part of a room that was copied over
+pub stored : (l ws : List ℕ) (at k : ℕ) → k ≡ length ws → at + length ws ≤ length l → put_mid at k l ws ≡ sets l at ws
+stored l ws at k e h = sym (sets-eq ws l at h ∙ append_assoc (take at l) ws (drop (at + length ws) l)
+    ∙ ap (λ (z : List ℕ). take at l ++ (ws ++ z)) (ap (λ (n : ℕ). drop (at + n) l) (sym e) ∙ sym (drop-drop k at l)))
 
 -- a line by the byte that was read, and by the operands that were found
 pub line_is : (l ks : List ℕ) (x : ℕ) {c u a v b : ℕ} → c ≡ look l x → u ≡ left c x → a ≡ operand u ks → v ≡ right c x → b ≡ operand v ks

@@ -4,6 +4,7 @@ use mathlib.Core.Path.{◌≡◌, refl, subst}
 use mathlib.Core.List.{List, map}
 use lib.Count.{ones}
 use lib.ListN.{replicate, take}
+use Rattle.line.specs.Refusal.{number_of}
 use Rattle.line.specs.Limits.{line_bytes}
 use Rattle.line.specs.Number.{digits_by, bit_length, halvings_by, twos, odd_part}
 use Rattle.line.specs.Line.{kind_of}
@@ -11,7 +12,7 @@ use Rattle.split.specs.Split.{low, high, left_at, right_at, legal_at}
 use Rattle.split.specs.Reach.{follow, reach_by, fuel, reach, member, add, adds, set_by, set_of}
 use Rattle.split.specs.Choose.{lines, pick, better, best_below, choose, split_by, split_for, split_of, look, splits_from, splits}
 use Rattle.split.specs.Order.{zero_bits, rank, key, put_in, ordered, coefficients, place_in, operand, line_for, lines_bytes, recipe_for}
-use Rattle.plan.specs.Plan.{Planning, planned_number, planned_lines, plan_answer, plan_outcome}
+use Rattle.plan.specs.Plan.{Planning, planned_lines, plan_answer, plan_outcome}
 use Rattle.cases.specs.Table.{Planned, PlanRooms}
 use Rattle.cases.specs.Bench.{bench}
 use Rattle.cases.specs.Agreed.{agreed, agreed_splits}
@@ -29,7 +30,7 @@ answered t k =
       c = k.c;
       work = k.work;
       recipe = k.recipe;
-      number = planned_number o.answer;
+      number = number_of o.answer;
       lines = take (line_bytes * planned_lines o.answer) o.recipe;
     }
 

@@ -2,7 +2,7 @@
 use Prim.Native.Nat.{ℕ, suc, ◌+◌, ◌*◌, ◌/◌, ◌%◌, ◌≤◌, ◌<◌}
 use mathlib.Core.Path.{◌≡◌, refl, sym, ap, ◌∙◌, subst, subst₂}
 use mathlib.Core.Bool.{Bool, true, false, ◌&&◌, false≢true}
-use mathlib.Core.List.{List}
+use mathlib.Core.List.{List, []}
 use native.Mathlib.Nat.{pos_of_ne-zero}
 use native.Mathlib.Omega.{arith}
 use borrow.Author.Tests.{lt-leb}
@@ -13,7 +13,7 @@ use Rattle.split.specs.Choose.{Cost, best_below, better, lines, look}
 use Rattle.split.specs.Reach.{set_by}
 use Rattle.split.specs.Split.{kind, left, left_at, legal, legal_at, right, right_at}
 use Rattle.split.specs.declared.Best.{Best}
-use Rattle.plan.specs.Steps.{Hopeless, Known, Ready, Splits, set_room}
+use Rattle.plan.specs.Steps.{Hopeless, Known, Ready, Splits}
 use Rattle.split.proofs.Choose.{as_left, as_legal, as_right, best_skip, better_is, pick_less, pick_more, pick_none}
 use Rattle.split.proofs.Sets.{member_none}
 use Rattle.split.proofs.Splits.{Operands, operands}
@@ -46,17 +46,15 @@ module _ {j p n : ℕ} (sp : Splits j p n) where
     ops : Operands (kind s) (s % 32) n (left s n) (right s n)
     ops = operands s n h.big h.odd (omega (arith, h.few)) is_legal
 
-    pub walk_asks : (a : List ℕ) → length a ≡ set_room → Ready l a 0 s n
+    pub walk_asks : Ready l [] s n
     unfolding lines set_by
-    walk_asks a full = record {
+    walk_asks = record {
       big = h.big;
       odd = h.odd;
       few = h.few;
       is_legal = is_legal;
       long = h.long;
       legals = h.legals;
-      full = full;
-      within = omega arith;
       held = λ x m. absurd (false≢true (sym (member_none x) ∙ m));
       new = member_none n;
       room = h.room s is_legal;

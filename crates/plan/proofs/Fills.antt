@@ -7,7 +7,7 @@ use mathlib.Core.Logic.{⊎_elim}
 use native.Mathlib.Nat.{le_antisymm, eq-or-lt_of_le, two-pow-succ}
 use native.Mathlib.Omega.{arith}
 use lib.ListN.{length, get_or, set, take, drop, length-set, take-append-drop}
-use lib.Pow.{pow_pos, pow_mono}
+use lib.Pow.{pow_pos}
 use lib.Seq.{sets, get_or-set_same, get_or-set_other, drop-set-lt, drop-drop}
 use Rattle.line.proofs.Room.{sets_front}
 use Rattle.line.specs.Number.{bit_length}
@@ -15,7 +15,7 @@ use Rattle.split.specs.Choose.{best_below, choose, line_count, lines, look, spli
 use Rattle.split.specs.Reach.{turn}
 use Rattle.split.specs.Split.{kind, left, legal, right}
 use Rattle.split.specs.declared.Best.{Best}
-use Rattle.plan.specs.Steps.{Filled, Known, set_room}
+use Rattle.plan.specs.Steps.{Filled, HoldsSplits, Known, set_room}
 use Rattle.line.proofs.Number.{bits_gt, bits_le, bits_lt, lt_bits, pow_le}
 use Rattle.split.proofs.Bound.{lines_are, lines_both}
 use Rattle.split.proofs.Choose.{same_or, split_chosen, splits_legal}
@@ -121,9 +121,6 @@ filling_none {t} {w} {k} {m} two few long wide f g lo hi = record {
 }
 
 module _ {t : ℕ → ℕ} {w₀ k₀ : List ℕ} {m low : ℕ} {w k : List ℕ} {i : ℕ} (h : Filling t w₀ k₀ m low w k i) where
-  pub filling_small : i ≤ 2147483648
-  filling_small = omega (arith, h.most, pow_mono {i = m - 1} {j = 31} (omega (arith, h.few)))
-
   pub filling_all : i ≤ low → Filled t w₀ w m × Filled (line_count t) k₀ k m
   filling_all le =
       let e : i ≡ 2 ^ (m - 2) = omega (arith, h.least, h.low_is) in (
@@ -153,12 +150,6 @@ module _ {t : ℕ → ℕ} {w₀ k₀ : List ℕ} {m low : ℕ} {w k : List ℕ}
 
     wide_k : 2 ^ (m - 1) ≤ length k
     wide_k = omega (arith, h.wide, g.same)
-
-    pub in_work : i - 1 < length w
-    in_work = omega (arith, long_w, to_high)
-
-    pub in_counts : i - 1 < length k
-    in_counts = omega (arith, wide_k, to_high)
 
     bits_n : bit_length n ≡ m
     bits_n = bits_is t m h.two (i - 1) from_low to_high
@@ -227,20 +218,32 @@ module _ {w₀ k₀ : List ℕ} {m low : ℕ} {w k : List ℕ} {i : ℕ} (h : Fi
       (λ x b o r. splits_legal lines lines_depend (2 * (i - 1) + 1) (few_n h less) x b o (omega arith))
       (line_room (2 * (i - 1) + 1) (big_n h less) (omega arith) (few_n h less))
 
-  pub lines_chosen : (r : Best) → r ≡ best_below lines (look w) (2 * (i - 1) + 1) 128
-      → Filling split_of w₀ k₀ m low (set w (i - 1) (r.split % 256)) (set k (i - 1) (r.cost % 256)) (i - 1)
-  unfolding choose
-  lines_chosen r q =
-      let n : ℕ = 2 * (i - 1) + 1 in
-      let few : bit_length n < 32 = few_n h less in
-      let a : r.split ≡ split_of n =
-      ap (λ (b : Best). b.split) q ∙ chosen_is lines lines_depend w (big_n h less) (omega arith) few (splits_agree h less) in
-      let b : r.cost ≡ line_count split_of n =
-      ap (λ (x : Best). x.cost) q ∙ cost_is lines lines_depend w (big_n h less) (omega arith) few (splits_agree h less)
-      ∙ sym (lines_are split_of n (splits_legal lines lines_depend n few) (big_n h less) (omega arith) (omega arith)) in
-      filling_next h less (r.split % 256) (r.cost % 256)
-      (omega (arith, (split_chosen lines lines_depend n (big_n h less) (omega arith) few).small))
-      (omega (arith, lines_half n (omega arith) few))
+  module _ {r : Best} (q : r ≡ best_below lines (look w) (2 * (i - 1) + 1) 128) where
+    split_here : r.split ≡ split_of (2 * (i - 1) + 1)
+    unfolding choose
+    split_here = ap (λ (b : Best). b.split) q
+        ∙ chosen_is lines lines_depend w (big_n h less) (omega arith) (few_n h less) (splits_agree h less)
+
+    count_here : r.cost ≡ line_count split_of (2 * (i - 1) + 1)
+    count_here =
+        let n : ℕ = 2 * (i - 1) + 1 in
+        let few : bit_length n < 32 = few_n h less in
+        ap (λ (x : Best). x.cost) q ∙ cost_is lines lines_depend w (big_n h less) (omega arith) few (splits_agree h less)
+        ∙ sym (lines_are split_of n (splits_legal lines lines_depend n few) (big_n h less) (omega arith) (omega arith))
+
+    -- each fits a byte
+    pub split_fits : r.split < 256
+    split_fits = omega (
+      arith,
+      split_here,
+      (split_chosen lines lines_depend (2 * (i - 1) + 1) (big_n h less) (omega arith) (few_n h less)).small,
+    )
+
+    pub count_fits : r.cost < 256
+    count_fits = omega (arith, count_here, lines_half (2 * (i - 1) + 1) (omega arith) (few_n h less), few_n h less)
+
+    pub lines_chosen : Filling split_of w₀ k₀ m low (set w (i - 1) r.split) (set k (i - 1) r.cost) (i - 1)
+    lines_chosen = filling_next h less r.split r.cost split_here count_here
 
 -- ---- length by length
 
@@ -276,7 +279,7 @@ pub filled_again : (v : ℕ → ℕ) (l₀ l : List ℕ) (m : ℕ) → Filled v 
 filled_again v l₀ l m f = record { same = refl; known = f.known; rest = refl }
 
 -- a room whose first entry was written over
-pub filled_from : (v : ℕ → ℕ) (l₀ : List ℕ) (x top : ℕ) (l : List ℕ) → Filled v (set l₀ 0 x) l top → Filled v l₀ l top
+filled_from : (v : ℕ → ℕ) (l₀ : List ℕ) (x top : ℕ) (l : List ℕ) → Filled v (set l₀ 0 x) l top → Filled v l₀ l top
 filled_from v l₀ x top l f = record {
   same = f.same ∙ length-set l₀ 0 x;
   known = f.known;
@@ -302,7 +305,7 @@ splits_length t L = from 0 (2 ^ (L - 1))
     from i zero = refl
     from i (suc k) = ap suc (from (suc i) k)
 
-pub filled_over : (t : ℕ → ℕ) (l₀ l : List ℕ) (top : ℕ) → 0 < top → 2 ^ (top - 1) ≤ length l₀ → Filled t l₀ l top
+filled_over : (t : ℕ → ℕ) (l₀ l : List ℕ) (top : ℕ) → 0 < top → 2 ^ (top - 1) ≤ length l₀ → Filled t l₀ l top
     → l ≡ sets l₀ 0 (splits t top)
 unfolding splits look
 filled_over t l₀ l top pos long f =
@@ -314,3 +317,10 @@ filled_over t l₀ l top pos long f =
     ∙ f.known (2 * (0 + j) + 1) (omega arith) (bits_le top (2 * (0 + j) + 1) (omega arith))))
     (f.rest ∙ ap (λ (j : ℕ). drop j l₀) (sym (splits_length t top)))
     ∙ sym (sets_front l₀ (splits t top) (omega (arith, splits_length t top)))
+
+-- a room whose first entry was written over, and that was then filled
+pub filled_holds : (t : ℕ → ℕ) (l₀ l : List ℕ) (top : ℕ) → 0 < top → 2 ^ (top - 1) ≤ length l₀ → Filled t (set l₀ 0 0) l top
+    → HoldsSplits t l₀ top l
+filled_holds t l₀ l top pos long f =
+    let g : Filled t l₀ l top = filled_from t l₀ 0 top l f in
+    record { holds = filled_over t l₀ l top pos long g; same = g.same; known = g.known }

@@ -1,23 +1,15 @@
 -- The formulas of the kinds as the code computes them: with the power at hand, kind by kind.
-use Prim.Native.Nat.{ℕ, ◌+◌, ◌-◌, ◌*◌, ◌/◌, ◌%◌, ◌^◌, ◌≤◌, ◌<◌}
-use mathlib.Core.Path.{◌≡◌, refl, ◌∙◌, subst}
+use Prim.Native.Nat.{ℕ, ◌+◌, ◌-◌, ◌/◌, ◌%◌, ◌^◌, ◌≤◌, ◌<◌}
+use mathlib.Core.Path.{◌≡◌, refl, subst}
 use mathlib.Core.Bool.{true, false}
-use native.Mathlib.Nat.{one-mul}
 use native.Mathlib.Omega.{arith}
 use lib.Dec.{leb, ltb, eqb}
-use lib.Pow.{shl_exact, pow_mono}
 use borrow.Author.Tests.{ltb-true, le-leb, lt-leb, lt-ltb, le-ltb}
 use Rattle.line.specs.Line.{kind_of, minuss, sminus, splus}
 use Rattle.line.specs.Number.{bit_length}
 use Rattle.split.specs.Split.{high, left_at, legal_at, low, right_at}
 use Rattle.plan.specs.Steps.{Splits}
 use Rattle.split.proofs.Splits.{and₃, high_lt}
-
-pub shifted : (p : ℕ) → p < 32 → (1 * 2 ^ p) % 2 ^ 64 ≡ 2 ^ p
-shifted p h = shl_exact {a = 1} 1 p 64 (omega arith) (omega arith) ∙ one-mul (2 ^ p)
-
-pub pow_31 : (p : ℕ) → p < 32 → 2 ^ p ≤ 2147483648
-pow_31 p h = pow_mono {i = p} {j = 31} (omega arith)
 
 -- ---- the operands
 
@@ -31,10 +23,7 @@ module _ {k p n : ℕ} (h : Splits k p n) {q : ℕ} (qe : q ≡ 2 ^ p) where
   unfolding left_at right_at high low kind_of
   by_sminus e = rw (e, qe) (refl, refl)
 
-  module _ (not_1 : k ≡ 1 → ⊥) (not_2 : k ≡ 2 → ⊥) {m : ℕ} (me : m ≡ bit_length n) where
-    is_minuss : k ≡ 3
-    is_minuss = omega (arith, h.one, h.three)
-
+  module _ (is_minuss : k ≡ 3) {m : ℕ} (me : m ≡ bit_length n) where
     -- a MINUSS split is at p < N
     pub below_top : p < m
     unfolding legal_at kind_of

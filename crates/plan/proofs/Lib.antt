@@ -6,7 +6,8 @@ pub mod Above
 pub mod Counts
 pub mod Agrees
 pub mod Fills
-pub mod Puts
+pub mod Finds
+pub mod Sorts
 pub mod Recipes
 pub mod Bytes
 pub mod Plans

@@ -1,5 +1,5 @@
 -- What the steps of planning ask and give: the walk, the count, the choice, the fill, the order, the lines.
-use Rattle.std.specs.Prelude.{ℕ, suc, ◌+◌, ◌-◌, ◌/◌, ◌%◌, ◌^◌, ◌≤◌, ◌<◌, ◌≡◌, Bool, true, false, List, ◌⊎◌, eqb, length, take, drop}
+use Rattle.std.specs.Prelude.{ℕ, suc, ◌+◌, ◌-◌, ◌/◌, ◌%◌, ◌^◌, ◌≤◌, ◌<◌, ◌≡◌, Bool, true, false, List, ◌⊎◌, eqb, length, drop}
 use Rattle.std.proofs.lemmas.List.Edits.{sets}
 use Rattle.line.specs.Limits.{most_lines}
 use Rattle.line.specs.Number.{bit_length}
@@ -7,20 +7,10 @@ use Rattle.line.specs.Line.{kind_of}
 use Rattle.split.specs.Split.{legal_at, legal}
 use Rattle.split.specs.Reach.{turn, follow, reach, member, adds, Held}
 use Rattle.split.specs.Choose.{lines, line_count, look, splits}
-use Rattle.split.specs.Order.{put_in, ordered, coefficients}
-use Rattle.plan.specs.declared.lines.Set.{Set}
 
 -- the places of a set's room: one for each line of a recipe
 abbrev pub set_room : ℕ
 set_room = most_lines
-
--- the coefficients of a set
-abbrev pub items : Set → List ℕ
-items s = take s.len s.room
-
-pub record Sized (s : Set) : Type 0 where
-  pub within : s.len ≤ set_room
-  pub full : length s.room ≡ set_room
 
 -- an odd n of few bits, with a legal split
 pub record Splits (k p n : ℕ) : Type 0 where
@@ -40,25 +30,17 @@ pub record Fresh (x : ℕ) (set : List ℕ) (r : Bool) : Type 0 where
   pub unless : r ≡ false → (x < 2) ⊎ (member x set ≡ true)
 
 -- what following n's split s asks: s is legal, the table reaches as far as n's bit length, its splits are legal before n's turn, and the
--- first len of the set, which lack n, hold what they reach and leave room
-pub record Ready (work set : List ℕ) (len s n : ℕ) : Type 0 where
+-- set, which lacks n, holds what its members reach and leaves room
+pub record Ready (work set : List ℕ) (s n : ℕ) : Type 0 where
   pub big : 1 < n
   pub odd : n % 2 ≡ 1
   pub few : bit_length n < 32
   pub is_legal : legal s n ≡ true
   pub long : 2 ^ (bit_length n - 1) ≤ length work
   pub legals : (m : ℕ) → 1 < m → m % 2 ≡ 1 → turn m < turn n → legal (look work m) m ≡ true
-  pub full : length set ≡ set_room
-  pub within : len ≤ set_room
-  pub held : Held (look work) (take len set)
-  pub new : member n (take len set) ≡ false
-  pub room : length (adds (follow (reach (look work)) s n) (take len set)) ≤ set_room
-
--- the first r of the set at exit are its first len at entry, and those of xs that these lack
-pub record Walked (xs entry : List ℕ) (len : ℕ) (exit : List ℕ) (r : ℕ) : Type 0 where
-  pub holds : take r exit ≡ adds xs (take len entry)
-  pub within : r ≤ set_room
-  pub full : length exit ≡ set_room
+  pub held : Held (look work) set
+  pub new : member n set ≡ false
+  pub room : length (adds (follow (reach (look work)) s n) set) ≤ set_room
 
 -- ---- the choice
 
@@ -101,21 +83,6 @@ pub record HoldsSplits (t : ℕ → ℕ) (entry : List ℕ) (top : ℕ) (exit : 
 
 -- ---- the lines in order
 
--- coefficients of few bits
-pub record Small (s : Set) : Type 0 where
-  pub sized : Sized s
-  pub few : (y : ℕ) → member y (items s) ≡ true → bit_length y < 32
-
--- x put into an ordered set
-pub record PutsIn (s : Set) (x : ℕ) (r : Set) : Type 0 where
-  pub holds : items r ≡ put_in x (items s)
-  pub sized : Sized r
-  pub count : r.len ≡ s.len + 1
-
-pub record Orders (s r : Set) : Type 0 where
-  pub holds : items r ≡ ordered (items s)
-  pub sized : Sized r
-
 -- the table has legal splits up to d's turn, and d's set has room
 pub record Whole (work : List ℕ) (d : ℕ) : Type 0 where
   pub odd : d % 2 ≡ 1
@@ -124,12 +91,7 @@ pub record Whole (work : List ℕ) (d : ℕ) : Type 0 where
   pub legals : (m : ℕ) → 1 < m → m % 2 ≡ 1 → turn m < suc (turn d) → legal (look work m) m ≡ true
   pub room : line_count (look work) d ≤ set_room
 
-pub record Coefficients (t : ℕ → ℕ) (d : ℕ) (r : Set) : Type 0 where
-  pub holds : items r ≡ coefficients t d
-  pub sized : Sized r
-
 -- a line that can be written: its coefficient's split is in the table and legal
-pub record WritesLine (work : List ℕ) (s : Set) (x : ℕ) : Type 0 where
-  pub sized : Sized s
+pub record WritesLine (work : List ℕ) (x : ℕ) : Type 0 where
   pub splits : Splits (look work x / 32) (look work x % 32) x
   pub inside : x / 2 < length work

@@ -6,6 +6,7 @@ use mathlib.Core.List.{List, [], ◌∷◌, ◌++◌}
 use native.Mathlib.Omega.{arith}
 use lib.IntN.{ℤ}
 use lib.ListN.{length, get_or}
+use Rattle.line.specs.Refusal.{number_of}
 use Rattle.line.specs.Number.{bit_length}
 use Rattle.line.specs.declared.Line.{Line}
 use Rattle.line.proofs.Number.{lt_bits}
@@ -17,9 +18,9 @@ use Rattle.product.specs.Bit.{Bit, given}
 use Rattle.product.specs.Lines.{Sum, columns, encoded, line_encoded}
 use Rattle.product.specs.Product.{lines_from, lines_of, product_made, product_of}
 use Rattle.product.specs.ByLine.{clauses_by_line, joined, line_clauses}
-use Rattle.product.specs.Write.{written_number, writing, written}
+use Rattle.product.specs.Write.{writing, written}
 use Rattle.product.specs.Demand.{words_at_exit}
-use Rattle.product.specs.declared.Written.{Written}
+use Rattle.product.specs.Write.{Written}
 use Rattle.product.proofs.Bounds.{line_few_clauses}
 use Rattle.product.proofs.Given.{length_given}
 use Rattle.product.proofs.Lengths.{length_lines}
@@ -69,7 +70,7 @@ each_few x first recipe L h i q =
     (few_from (length (given x)) L recipe (length recipe / 5) 0 (given x ∷ []) first (λ j k. h j (omega arith)) i q)
 
 pub tiled : (c w : ℕ) (x : List ℤ) (first : ℕ) (recipe : List ℕ) (bits clauses : List ℤ) (answer : Written) (bits' clauses' : List ℤ)
-    → writing answer bits' clauses' ≡ written c w x first recipe bits clauses → written_number answer ≡ 0
+    → writing answer bits' clauses' ≡ written c w x first recipe bits clauses → number_of answer ≡ 0
     → joined (line_clauses x first recipe) ≡ clauses_of (words_at_exit answer clauses')
 unfolding line_clauses product_of product_made
 tiled c w x first recipe bits clauses answer bits' clauses' r z =

@@ -4,6 +4,7 @@ use mathlib.Core.Path.{◌≡◌, refl}
 use mathlib.Core.List.{List, map}
 use lib.IntN.{ℤ, pos}
 use lib.ListN.{replicate, take}
+use Rattle.line.specs.Refusal.{told_of}
 use Rattle.line.specs.Number.{digits_by, bit_length, halvings_by, twos, odd_part}
 use Rattle.line.specs.Line.{kind_of, gives}
 use Rattle.line.specs.declared.Told.{Told}
@@ -12,7 +13,7 @@ use Rattle.product.specs.Bit.{numbered}
 use Rattle.product.specs.Column.{parity, sum_made, both, either, most, carry_made, sum_of, carry_of, carry_unless, column}
 use Rattle.product.specs.Lines.{adder, shifted, fitted, line_sum, columns, line_encoded, encoded}
 use Rattle.product.specs.Product.{product_made, lines_from, product_of}
-use Rattle.product.specs.Write.{Writing, written_told, words_used, clauses_written, next_free, bits_of_y, write_answer, written}
+use Rattle.product.specs.Write.{Writing, words_used, clauses_written, next_free, bits_of_y, write_answer, written}
 use Rattle.cases.specs.Table.{Table, Written, WriteRooms, Given, GivenRooms}
 use Rattle.cases.specs.Bench.{bench}
 use Rattle.cases.specs.Agreed.{agreed}
@@ -25,7 +26,7 @@ outcome c w x first recipe bits clauses = written c w x first recipe (replicate 
 abbrev answered_over : List ℤ → ℕ → Written → Written
 answered_over x first k =
     let o : Writing = outcome k.c k.w x first k.recipe k.bits k.clauses in
-    let t : Told = written_told o.answer in
+    let t : Told = told_of o.answer in
     record {
       c = k.c;
       w = k.w;

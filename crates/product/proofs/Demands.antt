@@ -50,6 +50,8 @@
 -- 2^m (AdderMeans), so a line's bits are its coefficient times x mod 2^m (LineMeans), and exactly that, since m columns are enough
 -- (RecipeMeans). A column has at most 8 + 6 clauses, a line at most L + w columns (Bounds). Words are read back as the clauses that were
 -- written (crates/cnf, Words).
+use Rattle.line.specs.Refusal.{number_of}
+use Rattle.std.specs.Prelude.{Ok}
 use Prim.Native.Nat.{ℕ, suc, ◌+◌, ◌-◌, ◌*◌, ◌/◌, ◌^◌, ◌≤◌, ◌<◌}
 use mathlib.Core.Path.{◌≡◌, sym, ap, ◌∙◌, subst}
 use mathlib.Core.Logic.{◌≢◌, ◌⊎◌, ⊎_elim}
@@ -61,7 +63,6 @@ use lib.ListN.{length, get_or, length-map}
 use Rattle.line.specs.Number.{bit_length, twos}
 use Rattle.line.specs.declared.Line.{Line}
 use Rattle.recipe.specs.Check.{line_at, checked}
-use Rattle.recipe.specs.declared.Checked.TheVariants.{Accepted}
 use Rattle.recipe.proofs.Accepted.{accepted_right}
 use Rattle.cnf.specs.Words.{From1, words, clauses_of, names, highest_named, DistinctBelow}
 use Rattle.cnf.specs.Clause.{Literal, Clause, negation, clauses_name, AllDistinct, StandsIn}
@@ -71,11 +72,11 @@ use Rattle.product.specs.Bit.{Bit, fixed, given, numbered, stored}
 use Rattle.product.specs.Product.{product_made, lines_of, product_of, y_entries, clause_words}
 use Rattle.product.specs.Renaming.{renaming, word_renamed}
 use Rattle.line.specs.Limits.{most_next}
-use Rattle.product.specs.Write.{written_number, words_used, clauses_written, next_free, bits_of_y, y_length, Writing, writing}
+use Rattle.product.specs.Write.{words_used, clauses_written, next_free, bits_of_y, y_length, Writing, writing}
 use Rattle.product.specs.Write.{written}
 use Rattle.product.specs.Demand.{LinesRight, lines_product, BitsBelow, Multiplies, Demand2, words_at_exit, entries_at_exit}
 use Rattle.product.specs.Demand.{Counted, Opened, Renamed, PlainDemand2}
-use Rattle.product.specs.declared.Written.{Written}
+use Rattle.product.specs.Write.{Written}
 use Rattle.product.proofs.Bounds.{few_clauses}
 use Rattle.product.proofs.Given.{renames, product_as_numbered, counts_as_numbered}
 use Rattle.product.proofs.Renamed.{ProductRenamed, CountsSame}
@@ -97,7 +98,7 @@ demand_2_inside t lines x n p i g =
 
 -- ---- a recipe that the check accepts
 
-module _ (c : ℕ) (x : List ℤ) (first : ℕ) (recipe : List ℕ) (e : checked c recipe ≡ Accepted) (some : 0 < first)
+module _ (c : ℕ) (x : List ℤ) (first : ℕ) (recipe : List ℕ) (e : checked c recipe ≡ Ok tt) (some : 0 < first)
     (fit : DistinctBelow first x) where
   multiplies : ProductMultiplies From1 c (given x) first (product_of c x first recipe)
   multiplies = product_of_multiplies c x first recipe (accepted_right c recipe e).makes some fit
@@ -112,12 +113,12 @@ module _ (c : ℕ) (x : List ℤ) (first : ℕ) (recipe : List ℕ) (e : checked
 
 pub not_refused : (c w : ℕ) (x : List ℤ) (first : ℕ) (recipe : List ℕ) (bits clauses : List ℤ) (answer : Written) (bits' clauses' : List ℤ)
     → writing answer bits' clauses' ≡ written c w x first recipe bits clauses
-    → checked c recipe ≡ Accepted → 1 ≤ w → w ≤ 16 → length x ≡ w → DistinctBelow first x → (product_of c x first recipe).next ≤ most_next
+    → checked c recipe ≡ Ok tt → 1 ≤ w → w ≤ 16 → length x ≡ w → DistinctBelow first x → (product_of c x first recipe).next ≤ most_next
     → y_length c w ≤ length bits → length (clause_words (product_of c x first recipe)) ≤ length clauses
-    → written_number answer ≡ 0
+    → number_of answer ≡ 0
 not_refused c w x first recipe bits clauses answer bits' clauses' r e p q l i n f h =
     let g = accepted_right c recipe e in
-    ap written_number (ap (λ (o : Writing). o.answer) r ∙ answer_of c w x first recipe bits clauses)
+    ap number_of (ap (λ (o : Writing). o.answer) r ∙ answer_of c w x first recipe bits clauses)
     ∙ passes_all c w x first recipe (length bits) (length clauses)
     (record { constant = (g.least, g.most); width = (p, q); literals = l; fit = i; makes = g.makes })
     (record { next_fits = n; bits_fit = f; clauses_fit = h })
@@ -125,7 +126,7 @@ not_refused c w x first recipe bits clauses answer bits' clauses' r e p q l i n 
 -- ---- every call that is not refused
 
 module _ (c w : ℕ) (x : List ℤ) (first : ℕ) (recipe : List ℕ) (bits clauses : List ℤ) (answer : Written) (bits' clauses' : List ℤ)
-    (r : writing answer bits' clauses' ≡ written c w x first recipe bits clauses) (z : written_number answer ≡ 0) where
+    (r : writing answer bits' clauses' ≡ written c w x first recipe bits clauses) (z : number_of answer ≡ 0) where
   succeeds : Success c w x first recipe bits clauses answer bits' clauses'
   succeeds = success c w x first recipe bits clauses answer bits' clauses' r z
 
@@ -193,7 +194,7 @@ module _ (c w : ℕ) (x : List ℤ) (first : ℕ) (recipe : List ℕ) (bits clau
 -- ---- document 01's call, beside every other
 
 module _ (c w : ℕ) (recipe : List ℕ) (bits clauses : List ℤ) (answer : Written) (bits' clauses' : List ℤ)
-    (r : writing answer bits' clauses' ≡ written c w (numbered 1 w) (suc w) recipe bits clauses) (z : written_number answer ≡ 0) where
+    (r : writing answer bits' clauses' ≡ written c w (numbered 1 w) (suc w) recipe bits clauses) (z : number_of answer ≡ 0) where
   plain_succeeds : Success c w (numbered 1 w) (suc w) recipe bits clauses answer bits' clauses'
   plain_succeeds = success c w (numbered 1 w) (suc w) recipe bits clauses answer bits' clauses' r z
 
@@ -208,7 +209,7 @@ module _ (c w : ℕ) (recipe : List ℕ) (bits clauses : List ℤ) (answer : Wri
 
   -- the same recipe over other literals and from another number on, in other rooms
   pub renamed : (x : List ℤ) (first : ℕ) (bits₂ clauses₂ : List ℤ) (answer₂ : Written) (bits₂' clauses₂' : List ℤ)
-      → writing answer₂ bits₂' clauses₂' ≡ written c w x first recipe bits₂ clauses₂ → written_number answer₂ ≡ 0
+      → writing answer₂ bits₂' clauses₂' ≡ written c w x first recipe bits₂ clauses₂ → number_of answer₂ ≡ 0
       → Renamed x first answer bits' clauses' answer₂ bits₂' clauses₂'
   unfolding product_of
   renamed x first bits₂ clauses₂ answer₂ bits₂' clauses₂' r₂ z₂ =

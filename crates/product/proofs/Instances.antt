@@ -11,6 +11,7 @@ use borrow.Author.Tests.{eqb-true}
 use lib.Dec.{eqb}
 use lib.IntN.{ℤ, pos, negsuc}
 use lib.ListN.{length, take, replicate}
+use Rattle.line.specs.Refusal.{number_of}
 use Rattle.line.specs.Number.{digits_by, bit_length, halvings_by, twos, odd_part}
 use Rattle.line.specs.Line.{kind_of, gives}
 use Rattle.recipe.specs.Check.{claims, judged, lines_judged, form_judged, recipe_judged}
@@ -20,7 +21,7 @@ use Rattle.product.specs.Bit.{numbered}
 use Rattle.product.specs.Column.{parity, sum_made, both, either, most, carry_made, sum_of, carry_of, carry_unless, column}
 use Rattle.product.specs.Lines.{adder, shifted, fitted, line_sum, columns, line_encoded, encoded}
 use Rattle.product.specs.Product.{product_made, lines_from, product_of}
-use Rattle.product.specs.Write.{written_number, next_free, write_answer, Writing, writing, written}
+use Rattle.product.specs.Write.{next_free, write_answer, Writing, writing, written}
 use Rattle.product.specs.Demand.{assignment, Demand2, words_at_exit, entries_at_exit}
 use Rattle.product.proofs.Demands.{demand_2}
 
@@ -124,7 +125,7 @@ before_of k = take (k.first - 1) (values_of k)
 
 abbrev test : Case → Bool
 test k =
-    eqb (written_number (outcome k).answer) 0
+    eqb (number_of (outcome k).answer) 0
     && (eqb (length (before_of k)) (k.first - 1)
     && (eqb (length (values_of k)) (next_free (outcome k).answer - 1) && satisfies_words (assignment (values_of k)) (words_of k)))
 
@@ -144,7 +145,7 @@ AllFound (k ∷ ks) = Found k × AllFound ks
 found : (k : Case) → test k ≡ true → Found k
 found k e =
     let a = and_left _ _ e in
-    let e₁ = and_right (eqb (written_number (outcome k).answer) 0) _ e in
+    let e₁ = and_right (eqb (number_of (outcome k).answer) 0) _ e in
     let b = and_left _ _ e₁ in
     let e₂ = and_right (eqb (length (before_of k)) (k.first - 1)) _ e₁ in
     let f = and_left _ _ e₂ in

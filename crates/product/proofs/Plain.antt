@@ -1,4 +1,5 @@
 -- Document 01's call, where x is the variables 1 to w: its tests are document 01's, and demand 2 of it is that of every input below 2^w.
+use Rattle.std.specs.Prelude.{Ok, Err}
 use Prim.Native.Nat.{ℕ, zero, suc, ◌+◌, ◌-◌, ◌*◌, ◌/◌, ◌^◌, ◌≤◌, ◌<◌}
 use mathlib.Core.Path.{◌≡◌, refl, sym, ap, ap₂, ◌∙◌}
 use mathlib.Core.Bool.{Bool, true, false}
@@ -15,7 +16,6 @@ use Rattle.line.specs.declared.Refusal.TheVariants.{Constant, Width, Literals, V
 use Rattle.line.proofs.Number.{bits_le}
 use Rattle.line.specs.Limits.{most_next, out_of_range, not_a_width}
 use Rattle.line.specs.Order.{refuses, answer_by}
-use Rattle.line.specs.declared.Verdict.TheVariants.{Kept}
 use Rattle.line.proofs.Order.{misses, missed, later_same, all_kept, kept_front, within}
 use Rattle.recipe.specs.Check.{line_at, recipe_judged}
 use Rattle.recipe.proofs.Accepted.{kept_makes}
@@ -25,7 +25,6 @@ use Rattle.product.specs.Column.{is_odd}
 use Rattle.product.specs.Product.{plain_product_of, clause_words}
 use Rattle.product.specs.Write.{not_literals, room_tests, y_length, clauses_of_product, write_answer, plain_answer}
 use Rattle.product.specs.Demand.{assignment, entries_read, Demand2, number_of, PlainDemand2}
-use Rattle.product.specs.declared.Written.TheVariants.{Refused}
 use Rattle.product.proofs.Bounds.{few_next}
 use Rattle.product.proofs.ColumnMeans.{num_le, odd_mod}
 use Rattle.product.proofs.Given.{of_literals, length_numbered, numbered_fit}
@@ -36,7 +35,7 @@ module _ (c w : ℕ) (recipe : List ℕ) where
   pub literals_pass : not_literals w (numbered 1 w) (suc w) ≡ false
   literals_pass = of_literals w (numbered 1 w) (suc w) (length_numbered 1 w) (numbered_fit w)
 
-  variables_pass : not_a_width w ≡ false → recipe_judged (odd_part c) recipe ≡ Kept
+  variables_pass : not_a_width w ≡ false → recipe_judged (odd_part c) recipe ≡ Ok tt
       → ltb most_next (plain_product_of c w recipe).next ≡ false
   variables_pass h k =
       let m = kept_makes (odd_part c) recipe k in
@@ -53,7 +52,7 @@ module _ (c w : ℕ) (recipe : List ℕ) where
       let literals = refuses (not_literals w (numbered 1 w) (suc w)) Literals in
       let variables = refuses (ltb most_next (plain_product_of c w recipe).next) Variables in
       let rooms = room_tests (y_length c w) (length (clause_words (plain_product_of c w recipe))) bits clauses in
-      ap (answer_by Refused (clauses_of_product (plain_product_of c w recipe) (y_length c w)))
+      ap (answer_by Err (clauses_of_product (plain_product_of c w recipe) (y_length c w)))
       (later_same (refuses (out_of_range c) Constant) (λ _.
       later_same (refuses (not_a_width w) Width) (λ b.
       kept_front (literals ∷ []) (recipe_judged (odd_part c) recipe ∷ variables ∷ rooms)

@@ -1,4 +1,6 @@
 -- What no refusal means: every test of document 01's order was passed, and the rooms hold the product's words and entries.
+use Rattle.line.specs.Refusal.{number_of}
+use Rattle.std.specs.Prelude.{Ok, Err}
 use Prim.Native.Nat.{ℕ, ◌<◌}
 use mathlib.Core.Path.{◌≡◌, refl, sym, ap, ap₂, ◌∙◌}
 use mathlib.Core.List.{List, ◌++◌}
@@ -6,20 +8,18 @@ use native.Mathlib.Omega.{arith}
 use lib.IntN.{ℤ}
 use lib.ListN.{length, take, drop, length-map}
 use Rattle.line.specs.Order.{first_broken, answer_by}
-use Rattle.line.specs.declared.Verdict.{Verdict}
-use Rattle.line.specs.declared.Verdict.TheVariants.{Kept}
+use Rattle.line.specs.Order.{Verdict}
 use Rattle.line.proofs.Order.{in_parts, kept_both, kept_front, behind_kept}
 use Rattle.line.proofs.Room.{take_sets, drop_sets}
 use Rattle.line.proofs.Refusals.{refusal_above_0}
 use Rattle.product.specs.Bit.{stored}
 use Rattle.product.specs.Product as product
 use Rattle.product.specs.Product.{product_of, y_entries, clause_words}
-use Rattle.product.specs.Write.{written_number, words_used, bits_of_y, input_tests, product_tests, y_length, clauses_of_product}
+use Rattle.product.specs.Write.{words_used, bits_of_y, input_tests, product_tests, y_length, clauses_of_product}
 use Rattle.product.specs.Write.{write_answer}
 use Rattle.product.specs.Write.{Writing, writing, write_by, written}
 use Rattle.product.specs.Demand.{words_at_exit, entries_at_exit}
-use Rattle.product.specs.declared.Written.{Written}
-use Rattle.product.specs.declared.Written.TheVariants.{Clauses, Refused}
+use Rattle.product.specs.Write.{Written}
 use Rattle.product.proofs.Given.{above_0}
 use Rattle.product.proofs.Tests.{InputsRight, Fits, kept_inputs, inputs_kept, kept_fits, fits_kept}
 use Rattle.product.proofs.AcceptedMeans.{length_of_y}
@@ -41,16 +41,16 @@ module _ (c w : ℕ) (x : List ℤ) (first : ℕ) (recipe : List ℕ) (bits clau
   abbrev rest : List Verdict
   rest = product_tests p (y_length c w) bits clauses
 
-  all_passed : first_broken ins ≡ Kept → first_broken rest ≡ Kept
+  all_passed : first_broken ins ≡ Ok tt → first_broken rest ≡ Ok tt
       → write_answer c w x first recipe bits clauses ≡ clauses_of_product p (y_length c w)
   unfolding write_answer
-  all_passed i f = ap (answer_by Refused (clauses_of_product p (y_length c w))) (kept_front ins rest i ∙ f)
+  all_passed i f = ap (answer_by Err (clauses_of_product p (y_length c w))) (kept_front ins rest i ∙ f)
 
-  pub passes : written_number (write_answer c w x first recipe bits clauses) ≡ 0 → Passes c w x first recipe bits clauses
+  pub passes : number_of (write_answer c w x first recipe bits clauses) ≡ 0 → Passes c w x first recipe bits clauses
   unfolding write_answer
   passes e =
       let k =
-      (behind_kept (λ (a : Written). written_number a ≡ 0) Refused (clauses_of_product p (y_length c w))
+      (behind_kept (λ (a : Written). number_of a ≡ 0) Err (clauses_of_product p (y_length c w))
       (λ r q. omega (arith, refusal_above_0 r))
       (first_broken (ins ++ rest)) e).0 in
       let b = kept_both (first_broken ins) (first_broken rest) (sym (in_parts ins rest) ∙ k) in
@@ -62,14 +62,14 @@ module _ (c w : ℕ) (x : List ℤ) (first : ℕ) (recipe : List ℕ) (bits clau
 
   -- and with every test passed there is no refusal
   pub passes_all : InputsRight c w x first recipe → Fits p (y_length c w) bits clauses
-      → written_number (write_answer c w x first recipe bits clauses) ≡ 0
-  passes_all i f = ap written_number (all_passed (inputs_kept c w x first recipe i) (fits_kept p (y_length c w) bits clauses f))
+      → number_of (write_answer c w x first recipe bits clauses) ≡ 0
+  passes_all i f = ap number_of (all_passed (inputs_kept c w x first recipe i) (fits_kept p (y_length c w) bits clauses f))
 
 -- ---- the rooms
 
 answer_is : (p : product.Product) (bits clauses : List ℤ) (a : Written) → (write_by a p bits clauses).answer ≡ a
-answer_is p bits clauses (Clauses counts) = refl
-answer_is p bits clauses (Refused x) = refl
+answer_is p bits clauses (Ok counts) = refl
+answer_is p bits clauses (Err x) = refl
 
 pub answer_of : (c w : ℕ) (x : List ℤ) (first : ℕ) (recipe : List ℕ) (bits clauses : List ℤ)
     → (written c w x first recipe bits clauses).answer ≡ write_answer c w x first recipe (length bits) (length clauses)
@@ -89,7 +89,7 @@ pub record Success (c w : ℕ) (x : List ℤ) (first : ℕ) (recipe : List ℕ) 
   pub entries_stay : drop (bits_of_y answer) bits' ≡ drop (bits_of_y answer) bits
 
 pub success : (c w : ℕ) (x : List ℤ) (first : ℕ) (recipe : List ℕ) (bits clauses : List ℤ) (answer : Written) (bits' clauses' : List ℤ)
-    → writing answer bits' clauses' ≡ written c w x first recipe bits clauses → written_number answer ≡ 0
+    → writing answer bits' clauses' ≡ written c w x first recipe bits clauses → number_of answer ≡ 0
     → Success c w x first recipe bits clauses answer bits' clauses'
 unfolding written
 success c w x first recipe bits clauses answer bits' clauses' r z =
@@ -97,7 +97,7 @@ success c w x first recipe bits clauses answer bits' clauses' r z =
     let ws : List ℤ = clause_words p in
     let es : List ℤ = y_entries p in
     let t = passes c w x first recipe (length bits) (length clauses)
-    (sym (ap written_number (ap (λ (q : Writing). q.answer) r ∙ answer_of c w x first recipe bits clauses)) ∙ z) in
+    (sym (ap number_of (ap (λ (q : Writing). q.answer) r ∙ answer_of c w x first recipe bits clauses)) ∙ z) in
     let o = r ∙ ap (λ (a : Written). write_by a p bits clauses) t.is in
     let ea = ap (λ (q : Writing). q.answer) o in
     let eb = ap (λ (q : Writing). q.bits) o in

@@ -9,7 +9,7 @@ use Rattle.product.specs.Bit.{Bit, fixed, unfixed, num, reads}
 use Rattle.product.specs.Product.{Product, last_or}
 use Rattle.product.specs.Renaming.{word_renamed, renaming}
 use Rattle.product.specs.Write.{words_used, clauses_written, next_free, bits_of_y}
-use Rattle.product.specs.declared.Written.{Written}
+use Rattle.product.specs.Write.{Written}
 
 -- ---- lines that are right, and their product
 

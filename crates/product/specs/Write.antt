@@ -1,34 +1,26 @@
 -- Writing: from a constant, a width, literals for x, a first free number, a recipe and two rooms to the answer and the rooms at exit.
-use Rattle.std.specs.Prelude.{ℕ, suc, ◌-◌, ◌*◌, ◌^◌, Bool, false, not, ◌||◌, List, [], ◌∷◌, ◌++◌, eqb, ltb, ℤ, length}
+use Rattle.std.specs.Prelude.{ℕ, suc, ◌-◌, ◌*◌, ◌^◌, Bool, false, not, ◌||◌, List, [], ◌∷◌, ◌++◌, eqb, ltb, ℤ, length, Result, Ok, Err}
 use Rattle.std.proofs.lemmas.List.Edits.{sets}
 use Rattle.line.specs.Limits.{most_next, out_of_range, not_a_width}
 use Rattle.line.specs.Number.{bit_length, odd_part}
 use Rattle.line.specs.Order.{refuses, in_order}
-use Rattle.line.specs.Refusal.{nothing, told}
+use Rattle.line.specs.declared.Refusal.{Refusal}
 use Rattle.line.specs.declared.Refusal.TheVariants.{Constant, Width, BitRoom, ClauseRoom, Literals, Variables}
-use Rattle.line.specs.declared.Told.{Told}
-use Rattle.line.specs.declared.Verdict.{Verdict}
+use Rattle.line.specs.Order.{Verdict}
 use Rattle.recipe.specs.Check.{recipe_judged}
 use Rattle.cnf.specs.Words.{named, names}
 use Rattle.product.specs.Bit.{numbered}
 use Rattle.product.specs.Product.{Product, product_of, plain_product_of, y_entries, clause_words}
 use Rattle.product.specs.declared.Counts.{Counts}
-use Rattle.product.specs.declared.Written.{Written}
-use Rattle.product.specs.declared.Written.TheVariants.{Clauses, Refused}
 
--- ---- what an answer tells of a refusal, all zero in success, and its counts, zero in a refusal
+-- ---- what writing answers, and its counts, zero in a refusal
 
-abbrev pub written_told : Written → Told
-written_told (Clauses counts) = nothing
-written_told (Refused x) = told x
-
--- the documents' number
-abbrev pub written_number : Written → ℕ
-written_number a = (written_told a).number
+abbrev pub Written : Type 0
+Written = Result Counts Refusal
 
 abbrev pub counts_of : Written → Counts
-counts_of (Clauses counts) = counts
-counts_of (Refused x) = record { words = 0; clauses = 0; next = 0; bits = 0 }
+counts_of (Ok counts) = counts
+counts_of (Err x) = record { words = 0; clauses = 0; next = 0; bits = 0 }
 
 abbrev pub words_used : Written → ℕ
 words_used a = (counts_of a).words
@@ -79,12 +71,12 @@ abbrev pub y_length : ℕ → ℕ → ℕ
 y_length c w = bit_length (c * (2 ^ w - 1))
 
 abbrev pub clauses_of_product : Product → ℕ → Written
-clauses_of_product p bits = Clauses (record { words = length (clause_words p); clauses = length p.clauses; next = p.next; bits = bits })
+clauses_of_product p bits = Ok (record { words = length (clause_words p); clauses = length p.clauses; next = p.next; bits = bits })
 
 unfoldable pub write_answer : ℕ → ℕ → List ℤ → ℕ → List ℕ → ℕ → ℕ → Written
 write_answer c w x first recipe bits clauses =
     let p : Product = product_of c x first recipe in
-    in_order Refused (input_tests c w x first recipe ++ product_tests p (y_length c w) bits clauses) (clauses_of_product p (y_length c w))
+    in_order Err (input_tests c w x first recipe ++ product_tests p (y_length c w) bits clauses) (clauses_of_product p (y_length c w))
 
 -- ---- the rooms at exit
 
@@ -99,14 +91,14 @@ writing answer bits clauses = record { answer = answer; bits = bits; clauses = c
 
 -- a refusal leaves both rooms as they came
 abbrev pub write_by : Written → Product → List ℤ → List ℤ → Writing
-write_by (Clauses counts) p bit_room clause_room =
-    writing (Clauses counts) (sets bit_room 0 (y_entries p)) (sets clause_room 0 (clause_words p))
-write_by (Refused x) p bit_room clause_room = writing (Refused x) bit_room clause_room
+write_by (Ok counts) p bit_room clause_room =
+    writing (Ok counts) (sets bit_room 0 (y_entries p)) (sets clause_room 0 (clause_words p))
+write_by (Err x) p bit_room clause_room = writing (Err x) bit_room clause_room
 
 -- behind the check: a product whose y has the given number of bits
 abbrev pub product_written : Product → ℕ → List ℤ → List ℤ → Writing
 product_written p y bit_room clause_room =
-    write_by (in_order Refused (product_tests p y (length bit_room) (length clause_room)) (clauses_of_product p y)) p bit_room clause_room
+    write_by (in_order Err (product_tests p y (length bit_room) (length clause_room)) (clauses_of_product p y)) p bit_room clause_room
 
 unfoldable pub written : ℕ → ℕ → List ℤ → ℕ → List ℕ → List ℤ → List ℤ → Writing
 written c w x first recipe bit_room clause_room =
@@ -121,7 +113,7 @@ plain_written c w recipe bit_room clause_room = written c w (numbered 1 w) (suc 
 unfoldable pub plain_answer : ℕ → ℕ → List ℕ → ℕ → ℕ → Written
 plain_answer c w recipe bits clauses =
     let p : Product = plain_product_of c w recipe in
-    in_order Refused
+    in_order Err
     (refuses (out_of_range c) Constant
     ∷ refuses (not_a_width w) Width
     ∷ recipe_judged (odd_part c) recipe

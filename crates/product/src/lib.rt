@@ -3,12 +3,12 @@
 #![tactic(auto)]
 
 ghost use Rattle.std.specs.Prelude.{◌≡◌};
-ghost use Rattle.product.specs.Write.{written_told, counts_of};
+ghost use Rattle.product.specs.Write.{counts_of};
 
-use line::{Refusal, Told};
+use line::Refusal;
 
 // What a success counts.
-#[derive(Clone, Copy)]
+#[derive(Clone, Copy, Debug, PartialEq, Eq)]
 pub struct Counts {
     pub words: usize,
     pub clauses: usize,
@@ -16,39 +16,14 @@ pub struct Counts {
     pub bits: usize,
 }
 
-#[derive(Clone, Copy)]
-pub enum Written {
-    Clauses(Counts),
-    Refused(Refusal),
-}
-
-impl Written {
-    // The documents' number, the bad line and the value that it gives; all zero in success.
-    pub fn told(self) -> Told
-        ensures { result ≡ written_told self }
-    {
-        match self {
-            Written::Clauses(_) => Told {
-                number: 0,
-                line: 0,
-                value: 0,
-            },
-            Written::Refused(x) => x.told(),
-        }
-    }
-
-    // Words used, clauses, the next free number and bits of y; all zero in a refusal.
-    pub fn counts(self) -> Counts
-        ensures { result ≡ counts_of self }
-    {
-        match self {
-            Written::Clauses(counts) => counts,
-            Written::Refused(_) => Counts {
-                words: 0,
-                clauses: 0,
-                next: 0,
-                bits: 0,
-            },
-        }
-    }
+// Words used, clauses, the next free number and bits of y; all zero in a refusal: std's `unwrap_or` under the documents' name.
+pub fn counts_of(written: Result<Counts, Refusal>) -> Counts
+    ensures { result ≡ counts_of written }
+{
+    written.unwrap_or(Counts {
+        words: 0,
+        clauses: 0,
+        next: 0,
+        bits: 0,
+    })
 }

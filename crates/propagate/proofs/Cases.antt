@@ -1,10 +1,11 @@
 -- The definition of a pass gives the worked cases' numbers, counts and rooms, by computation. Assumes nothing.
 use mathlib.Core.Path.{◌≡◌, refl}
 use mathlib.Core.List.{List, map}
+use Rattle.line.specs.Refusal.{number_of}
 use Rattle.cases.specs.Table.{Pass}
 use Rattle.cases.specs.Agreed.{agreed}
 use Rattle.propagate.specs.Clause.{with_literal, reading}
-use Rattle.propagate.specs.Pass.{Propagating, passed, all_unknown, given_rest, propagated, propagated_number, clauses_read}
+use Rattle.propagate.specs.Pass.{Propagating, passed, all_unknown, given_rest, propagated, clauses_read}
 
 -- a case as the definition answers it
 abbrev pub answered : Pass → Pass
@@ -15,7 +16,7 @@ answered k =
       given = k.given;
       allowance = k.allowance;
       room = k.room;
-      number = propagated_number o.answer;
+      number = number_of o.answer;
       clauses = clauses_read o.answer;
       left = o.room;
     }

@@ -12,19 +12,20 @@ use lib.IntN.{ℤ}
 use lib.ListN.{length, drop, set, length-set}
 use lib.Seq.{get_or-set_same, get_or-set_other}
 use borrow.Author.Tests.{eqb-false, ltb-false}
+use Rattle.line.specs.Refusal.{number_of}
 use Rattle.line.specs.declared.Refusal.{Refusal}
 use Rattle.line.specs.declared.Refusal.TheVariants.{Given}
+use Rattle.std.specs.Prelude.{Option, Some, None, Ok, Err}
 use Rattle.cnf.specs.Words.{named, names, DistinctBelow}
 use Rattle.cnf.proofs.Extend.{or_false}
 use Rattle.cnf.proofs.Words.{names_either}
 use Rattle.propagate.specs.Clause.{wanted, value_at, reading_clause}
-use Rattle.propagate.specs.Pass.{turn_of, room_of, Propagating, on_or_stop, passed, all_unknown, not_given, Held, given_rest, settled}
-use Rattle.propagate.specs.Pass.{propagated, propagated_number}
+use Rattle.propagate.specs.Pass.{turn_by, turn_of, room_by, room_of, Propagating, on_or_stop, passed, all_unknown, not_given}
+use Rattle.propagate.specs.Pass.{Held, given_rest, settled, propagated}
+use Rattle.propagate.specs.declared.Verdict.{Verdict}
 use Rattle.propagate.specs.declared.Verdict.TheVariants.{AllFalse, Sets, Passes}
 use Rattle.propagate.specs.declared.Reading.{Reading}
-use Rattle.propagate.specs.declared.Reading.TheVariants.{Broken, Closed}
-use Rattle.propagate.specs.declared.Propagated.{Propagated}
-use Rattle.propagate.specs.declared.Propagated.TheVariants.{Read, Refused}
+use Rattle.propagate.specs.Pass.{Propagated}
 use Rattle.propagate.proofs.Literals.{wanted_le, not-true}
 use Rattle.propagate.proofs.Giving.{unknown_room}
 use Rattle.propagate.proofs.GivenKnown.{taken, value_unknowns}
@@ -115,7 +116,7 @@ distinct_held gs room u d =
 -- ---- 26
 
 -- the pass itself never answers 26
-pass_not_26 : (allowance count : ℕ) (ws : List ℤ) (room : List ℕ) → propagated_number (passed allowance count ws room).answer < 26
+pass_not_26 : (allowance count : ℕ) (ws : List ℤ) (room : List ℕ) → number_of (passed allowance count ws room).answer < 26
 unfolding passed
 pass_not_26 zero count [] room = omega arith
 pass_not_26 zero count (w ∷ ws) room = omega arith
@@ -123,35 +124,40 @@ pass_not_26 (suc allowance) count [] room = omega arith
 pass_not_26 (suc allowance) count (w ∷ ws) room =
     go (reading_clause room (w ∷ ws)) (λ n r. pass_not_26 allowance (suc count) (drop n (w ∷ ws)) r)
   where
-    go : (r : Reading) → ((n : ℕ) (l : List ℕ) → propagated_number (passed allowance (suc count) (drop n (w ∷ ws)) l).answer < 26)
-        → propagated_number
+    by : (d : Verdict) (k : ℕ) → ((n : ℕ) (l : List ℕ) → number_of (passed allowance (suc count) (drop n (w ∷ ws)) l).answer < 26)
+        → number_of
+        (on_or_stop (turn_by d k) (room_by d room) (λ n. passed allowance (suc count) (drop n (w ∷ ws)) (room_by d room))).answer < 26
+    by AllFalse k f = omega arith
+    by (Sets v value) k f = f k (set room (v - 1) value)
+    by Passes k f = f k room
+
+    go : (r : Option Reading) → ((n : ℕ) (l : List ℕ) → number_of (passed allowance (suc count) (drop n (w ∷ ws)) l).answer < 26)
+        → number_of
         (on_or_stop (turn_of r) (room_of r room) (λ n. passed allowance (suc count) (drop n (w ∷ ws)) (room_of r room))).answer < 26
-    go Broken f = omega arith
-    go (Closed AllFalse n) f = omega arith
-    go (Closed (Sets v value) n) f = f n (set room (v - 1) value)
-    go (Closed Passes n) f = f n room
+    go None f = omega arith
+    go (Some r) f = by r.verdict r.words f
 
 settled_number : (came : List ℕ) (a : Propagated) (room : List ℕ) → (settled came a room).answer ≡ a
-settled_number came (Read n) room = refl
-settled_number came (Refused x) room = refl
+settled_number came (Ok n) room = refl
+settled_number came (Err x) room = refl
 
 module _ (ws gs : List ℤ) (allowance : ℕ) (room : List ℕ) where
   by_tests : (a b : Bool) → all_unknown room ≡ a → (given_rest gs room).held ≡ b
-      → propagated_number (propagated ws gs allowance room).answer
-      ≡ cond (a && b) (propagated_number (passed allowance 0 ws (given_rest gs room).room).answer) 26
+      → number_of (propagated ws gs allowance room).answer
+      ≡ cond (a && b) (number_of (passed allowance 0 ws (given_rest gs room).room).answer) 26
   unfolding propagated
   by_tests true true e f =
-      rw (e, f) (ap propagated_number
+      rw (e, f) (ap number_of
       (settled_number room (passed allowance 0 ws (given_rest gs room).room).answer
       (passed allowance 0 ws (given_rest gs room).room).room))
   by_tests true false e f = rw (e, f)
   by_tests false b e f = rw e
 
-  pub refused_26 : propagated_number (propagated ws gs allowance room).answer ≡ 26 → all_unknown room ≡ true
+  pub refused_26 : number_of (propagated ws gs allowance room).answer ≡ 26 → all_unknown room ≡ true
       → DistinctBelow (suc (length room)) gs → ⊥
   refused_26 e u d = omega (arith, by_tests true true u (distinct_held gs room u d), pass_not_26 allowance 0 ws (given_rest gs room).room)
 
-  pub given_right : (propagated_number (propagated ws gs allowance room).answer ≡ 26 → ⊥)
+  pub given_right : (number_of (propagated ws gs allowance room).answer ≡ 26 → ⊥)
       → (all_unknown room ≡ true) × DistinctBelow (suc (length room)) gs
   given_right f = go (all_unknown room) refl (given_rest gs room).held refl
     where
@@ -161,16 +167,16 @@ module _ (ws gs : List ℤ) (allowance : ℕ) (room : List ℕ) where
       go true e false h = absurd (f (by_tests true false e h))
       go false e b h = absurd (f (by_tests false b e h))
 
-  pub refused_room : (x : Refusal) → (propagated ws gs allowance room).answer ≡ Refused x → (propagated ws gs allowance room).room ≡ room
+  pub refused_room : (x : Refusal) → (propagated ws gs allowance room).answer ≡ Err x → (propagated ws gs allowance room).room ≡ room
   unfolding propagated
   refused_room x e = go (all_unknown room && (given_rest gs room).held) (passed allowance 0 ws (given_rest gs room).room) e
     where
-      after : (a : Propagated) (l : List ℕ) → (settled room a l).answer ≡ Refused x → (settled room a l).room ≡ room
-      after (Read n) l f = absurd (let z : ◌≡◌ {A = ℕ} 0 1 = cc in omega arith)
-      after (Refused y) l f = refl
+      after : (a : Propagated) (l : List ℕ) → (settled room a l).answer ≡ Err x → (settled room a l).room ≡ room
+      after (Ok n) l f = absurd (let z : ◌≡◌ {A = ℕ} 0 1 = cc in omega arith)
+      after (Err y) l f = refl
 
       go : (b : Bool) (o : Propagating)
-          → (cond b (settled room o.answer o.room) (record { answer = Refused Given; room = room })).answer ≡ Refused x
-          → (cond b (settled room o.answer o.room) (record { answer = Refused Given; room = room })).room ≡ room
+          → (cond b (settled room o.answer o.room) (record { answer = Err Given; room = room })).answer ≡ Err x
+          → (cond b (settled room o.answer o.room) (record { answer = Err Given; room = room })).room ≡ room
       go true o f = after o.answer o.room f
       go false o f = refl

@@ -1,22 +1,12 @@
 -- The value that a word wants, as the machine finds it and as assignments have it. Assumes nothing.
 use mathlib.Core.Path.{◌≡◌, refl, sym, ap}
-use mathlib.Core.Bool.{Bool, true, false, not, false≢true}
+use mathlib.Core.Bool.{Bool, true, false, not}
 use Prim.Native.Nat.{suc, ◌≤◌}
 use native.Mathlib.Omega.{arith}
-use lib.Signed.{lt_z}
 use lib.IntN.{ℤ, pos, negsuc}
-use borrow.Author.Tests.{ltb-true}
 use Rattle.cnf.specs.Clause.{Assignment, flips, value}
 use Rattle.cnf.specs.Words.{named, literal_of_word}
 use Rattle.propagate.specs.Clause.{wanted, byte}
-
-pub wanted_minus : (z : ℤ) → lt_z z (pos 0) ≡ true → 0 ≡ wanted z
-wanted_minus (pos v) e = absurd (omega (arith, ltb-true v 0 e))
-wanted_minus (negsuc v) e = refl
-
-pub wanted_plain : (z : ℤ) → lt_z z (pos 0) ≡ false → 1 ≡ wanted z
-wanted_plain (pos v) e = refl
-wanted_plain (negsuc v) e = absurd (false≢true (sym e))
 
 pub wanted_le : (z : ℤ) → wanted z ≤ 1
 wanted_le (pos v) = omega arith

@@ -3,6 +3,7 @@
 --
 -- The variables that may stand in the clauses are those that are given, all below n, and those from n on. So it holds where n is w + 1 and
 -- the variables 1 to w are given, and where given are some variables below any first free number.
+use Rattle.std.specs.Prelude.{Ok}
 use Prim.Native.Nat.{ℕ, zero, suc, ◌+◌, ◌-◌, ◌≤◌, ◌<◌}
 use mathlib.Core.Path.{◌≡◌, refl, sym, ap, ap₂, ◌∙◌, subst}
 use mathlib.Core.Logic.{inl, inr, ⊎_elim}
@@ -20,7 +21,6 @@ use Rattle.cnf.proofs.Extend.{Agree, Extends, satisfies_local}
 use Rattle.propagate.specs.Clause.{byte, value_at}
 use Rattle.propagate.specs.Pass.{Propagating, passed, unknowns, all_unknown, Held, given_rest, propagated}
 use Rattle.propagate.specs.Promise.{read_off, TrueIn, GivenOrNew, SetsAll}
-use Rattle.propagate.specs.declared.Propagated.TheVariants.{Read}
 use Rattle.propagate.proofs.Literals.{byte_le, not-true}
 use Rattle.propagate.proofs.Passing.{passed_nil}
 use Rattle.propagate.proofs.Giving.{unknown_room}
@@ -34,18 +34,18 @@ length_unknowns (suc m) = ap suc (length_unknowns m)
 
 -- a pass over all words, with allowance for every clause
 pass_over_all : (room room' : List ℕ) (cs : List Clause) (allowance : ℕ) → PassesOver room cs room' → length cs ≤ allowance
-    → passed allowance 0 (words cs) room ≡ record { answer = Read (length cs); room = room' }
+    → passed allowance 0 (words cs) room ≡ record { answer = Ok (length cs); room = room' }
 pass_over_all room room' cs allowance p h =
     let e : allowance ≡ length cs + (allowance - length cs) = omega arith in
     ap₂ (λ (a : ℕ) (ws : List ℤ). passed a 0 ws room) e (sym (append-nil (words cs)))
     ∙ p (allowance - length cs) 0 []
     ∙ passed_nil (allowance - length cs) (0 + length cs) room'
-    ∙ ap (λ (n : ℕ). record { answer = Read n; room = room' }) (zero-add (length cs))
+    ∙ ap (λ (n : ℕ). record { answer = Ok n; room = room' }) (zero-add (length cs))
 
 -- the call, where the literals are taken and the pass reads every clause
 call_reads : (ws gs : List ℤ) (allowance m k : ℕ) (room₁ room₂ : List ℕ) → given_rest gs (unknowns m) ≡ record { held = true; room = room₁ }
-    → passed allowance 0 ws room₁ ≡ record { answer = Read k; room = room₂ }
-    → propagated ws gs allowance (unknowns m) ≡ record { answer = Read k; room = room₂ }
+    → passed allowance 0 ws room₁ ≡ record { answer = Ok k; room = room₂ }
+    → propagated ws gs allowance (unknowns m) ≡ record { answer = Ok k; room = room₂ }
 unfolding propagated
 call_reads ws gs allowance m k room₁ room₂ e f = rw (all_unknowns m, e, f)
 
@@ -82,7 +82,7 @@ module _ (n : ℕ) (p : 0 < n) (gs : List ℤ) (d : DistinctBelow n gs) where
     -- the room behind the pass is the assignment β, below the next free variable
     promise : (room room₁ : List ℕ) (h : Held) → Taken gs room room₁ h → (β : Assignment) → Knows Used positive n β room₁
         → satisfies β cs ≡ true
-        → (r : SetTo Used positive next β room₁ cs) → SetsAll n next cs gs room (record { answer = Read (length cs); room = r.room' })
+        → (r : SetTo Used positive next β room₁ cs) → SetsAll n next cs gs room (record { answer = Ok (length cs); room = r.room' })
     promise room room₁ h t β k b r =
         let agree : Agree Used next (read_off r.room') β = λ v u l. ap (λ (w : ℕ). eqb w 1) (r.knows.below v u l) ∙ eqb_byte (β v) in
         record {

@@ -15,22 +15,22 @@ use lib.IntN.{ℤ, pos, negsuc}
 use lib.ListN.{length, drop, set}
 use lib.Seq.{get_or-set_same, get_or-set_other}
 use borrow.Author.Tests.{eqb-true, eqb-false, ltb-true}
+use Rattle.line.specs.Refusal.{number_of}
+use Rattle.std.specs.Prelude.{Option, Some, None, Ok, Err}
 use Rattle.cnf.specs.Clause.{Literal, Clause, Assignment, flips, value, holds, satisfies}
 use Rattle.cnf.specs.Words.{named, clauses_from, clauses_of, satisfies_words}
 use Rattle.cnf.proofs.Extend.{and_left, and_right, or_true}
-use Rattle.propagate.specs.Clause.{byte, wanted, value_at, with_unknown, with_literal, unless_above, reading, reading_clause}
-use Rattle.propagate.specs.Pass.{turn_of, room_of, Propagating, on_or_stop, passed, all_unknown, not_given, given_rest, settled}
-use Rattle.propagate.specs.Pass.{propagated, propagated_number}
+use Rattle.propagate.specs.Clause.{byte, wanted, value_at, with_unknown, with_literal, closed, unless_above, reading, reading_clause}
+use Rattle.propagate.specs.Pass.{turn_by, turn_of, room_by, room_of, Propagating, on_or_stop, passed, all_unknown, not_given}
+use Rattle.propagate.specs.Pass.{given_rest, settled, propagated}
 use Rattle.propagate.specs.Promise.{read_off, GivenTrue, Agrees}
 use Rattle.propagate.specs.declared.Verdict.{Verdict}
 use Rattle.propagate.specs.declared.Verdict.TheVariants.{AllFalse, Sets, Passes}
 use Rattle.propagate.specs.declared.Reading.{Reading}
-use Rattle.propagate.specs.declared.Reading.TheVariants.{Broken, Closed}
 use Rattle.line.specs.declared.Refusal.TheVariants.{Given}
-use Rattle.propagate.specs.declared.Propagated.{Propagated}
-use Rattle.propagate.specs.declared.Propagated.TheVariants.{Read, Refused}
+use Rattle.propagate.specs.Pass.{Propagated}
 use Rattle.propagate.proofs.Literals.{value_of_true, wanted_true}
-use Rattle.propagate.proofs.Passing.{ReadInside, inside}
+use Rattle.propagate.proofs.Passing.{Inside, ReadInside, inside}
 use Rattle.propagate.proofs.Giving.{unknown_room}
 use Rattle.propagate.proofs.GivenKnown.{value_unknowns, value_read_off}
 use Rattle.propagate.proofs.Exact.{takes}
@@ -129,20 +129,21 @@ record First (α : Assignment) (c : Clause) (ws : List ℤ) (j : ℕ) (d : Verdi
   clauses_are : clauses_from c ws ≡ clause ∷ clauses_of (drop (suc taken) ws)
   means : Means α d clause
 
-unless_closed : (m v : ℕ) (later : Reading) (d : Verdict) (k : ℕ) → unless_above (ltb m v) later ≡ Closed d k → later ≡ Closed d k
+unless_closed : (m v : ℕ) (later : Option Reading) (d : Verdict) (k : ℕ) → unless_above (ltb m v) later ≡ closed d k → later ≡ closed d k
 unless_closed m v later d k e = go (ltb m v) e
   where
-    go : (b : Bool) → unless_above b later ≡ Closed d k → later ≡ Closed d k
+    go : (b : Bool) → unless_above b later ≡ closed d k → later ≡ closed d k
     go true f = absurd (let z : ◌≡◌ {A = ℕ} 0 1 = cc in omega arith)
     go false f = f
 
 first : (α : Assignment) (room : List ℕ) → Agrees α room → (d₀ : Verdict) (c : Clause) (j : ℕ) (ws : List ℤ) (d : Verdict) (k : ℕ)
-    → Means α d₀ c → reading room d₀ j ws ≡ Closed d k → First α c ws j d k
+    → Means α d₀ c → reading room d₀ j ws ≡ closed d k → First α c ws j d k
 unfolding reading clauses_from lit
 first α room a d₀ c j [] d k m e = absurd (let z : ◌≡◌ {A = ℕ} 0 1 = cc in omega arith)
 first α room a d₀ c j (pos zero ∷ ws) d k m e =
-    let q : d₀ ≡ d = cc in
-    let f : suc j ≡ k = cc in
+    let r : ◌≡◌ {A = Reading} (record { verdict = d₀; words = suc j }) (record { verdict = d; words = k }) = cc in
+    let q : d₀ ≡ d = ap (λ (x : Reading). x.verdict) r in
+    let f : suc j ≡ k = ap (λ (x : Reading). x.words) r in
     record { clause = c; taken = 0; words_are = sym f ∙ omega arith; clauses_are = refl; means = subst (λ (x : Verdict). Means α x c) q m }
 first α room a d₀ c j (pos (suc v) ∷ ws) d k m e =
     let l : Literal = lit (suc v) false in
@@ -172,7 +173,7 @@ first α room a d₀ c j (negsuc v ∷ ws) d k m e =
     }
 
 -- the clause that was read in front of the others
-first_of : (α : Assignment) (room : List ℕ) (ws : List ℤ) (d : Verdict) (k : ℕ) → Agrees α room → reading_clause room ws ≡ Closed d k
+first_of : (α : Assignment) (room : List ℕ) (ws : List ℤ) (d : Verdict) (k : ℕ) → Agrees α room → reading_clause room ws ≡ closed d k
     → (c : Clause) × (clauses_of ws ≡ c ∷ clauses_of (drop k ws)) × Means α d c
 unfolding Means
 first_of α room ws d k a e =
@@ -193,7 +194,7 @@ agrees_set α room v b a e p l u q h =
 
 pub record Sound (α : Assignment) (o : Propagating) : Type 0 where
   pub agrees : Agrees α o.room
-  pub no_conflict : propagated_number o.answer ≡ 22 → ⊥
+  pub no_conflict : number_of o.answer ≡ 22 → ⊥
 
 pass_sound : (α : Assignment) (allowance count : ℕ) (ws : List ℤ) (room : List ℕ) → Agrees α room → satisfies α (clauses_of ws) ≡ true
     → Sound α (passed allowance count ws room)
@@ -205,7 +206,7 @@ pass_sound α (suc allowance) count (w ∷ ws) room a t =
     go (reading_clause room (w ∷ ws)) refl (inside room (w ∷ ws)) (λ n r. pass_sound α allowance (suc count) (drop n (w ∷ ws)) r)
   where
     -- the clause holds, and the clauses behind it do
-    holds_first : (d : Verdict) (n : ℕ) → reading_clause room (w ∷ ws) ≡ Closed d n
+    holds_first : (d : Verdict) (n : ℕ) → reading_clause room (w ∷ ws) ≡ closed d n
         → (c : Clause) × (holds α c ≡ true) × Means α d c × (satisfies α (clauses_of (drop n (w ∷ ws))) ≡ true)
     holds_first d n e =
         let f = first_of α room (w ∷ ws) d n a e in
@@ -216,16 +217,22 @@ pass_sound α (suc allowance) count (w ∷ ws) room a t =
           and_right (holds α f.0) (satisfies α (clauses_of (drop n (w ∷ ws)))) q,
         )
 
-    go : (r : Reading) → reading_clause room (w ∷ ws) ≡ r → ReadInside (length room) (0 + length (w ∷ ws)) r
+    by : (d : Verdict) (n : ℕ) → reading_clause room (w ∷ ws) ≡ closed d n → Inside (length room) d
+        → ((n : ℕ) (l : List ℕ) → Agrees α l → satisfies α (clauses_of (drop n (w ∷ ws))) ≡ true
+        → Sound α (passed allowance (suc count) (drop n (w ∷ ws)) l))
+        → Sound α (on_or_stop (turn_by d n) (room_by d room) (λ n. passed allowance (suc count) (drop n (w ∷ ws)) (room_by d room)))
+    by AllFalse n e i f = let h = holds_first AllFalse n e in absurd (false≢true (sym (never α h.0 h.2) ∙ h.1))
+    by (Sets v b) n e i f =
+        let h = holds_first (Sets v b) n e in
+        f n (set room (v - 1) b) (agrees_set α room v b a (forced α h.0 v b h.2 h.1) i.0 i.1) h.3
+    by Passes n e i f = let h = holds_first Passes n e in f n room a h.3
+
+    go : (r : Option Reading) → reading_clause room (w ∷ ws) ≡ r → ReadInside (length room) (0 + length (w ∷ ws)) r
         → ((n : ℕ) (l : List ℕ) → Agrees α l → satisfies α (clauses_of (drop n (w ∷ ws))) ≡ true
         → Sound α (passed allowance (suc count) (drop n (w ∷ ws)) l))
         → Sound α (on_or_stop (turn_of r) (room_of r room) (λ n. passed allowance (suc count) (drop n (w ∷ ws)) (room_of r room)))
-    go Broken e i f = record { agrees = a; no_conflict = λ z. omega arith }
-    go (Closed AllFalse n) e i f = let h = holds_first AllFalse n e in absurd (false≢true (sym (never α h.0 h.2) ∙ h.1))
-    go (Closed (Sets v b) n) e i f =
-        let h = holds_first (Sets v b) n e in
-        f n (set room (v - 1) b) (agrees_set α room v b a (forced α h.0 v b h.2 h.1) i.0.0 i.0.1) h.3
-    go (Closed Passes n) e i f = let h = holds_first Passes n e in f n room a h.3
+    go None e i f = record { agrees = a; no_conflict = λ z. omega arith }
+    go (Some r) e i f = by r.verdict r.words e i.0 f
 
 -- ---- the call
 
@@ -244,9 +251,9 @@ settled_sound : (α : Assignment) (came : List ℕ) (o : Propagating) → Agrees
     → Sound α (settled came o.answer o.room)
 settled_sound α came o a s = go o.answer s.no_conflict
   where
-    go : (x : Propagated) → (propagated_number x ≡ 22 → ⊥) → Sound α (settled came x o.room)
-    go (Read n) f = record { agrees = s.agrees; no_conflict = f }
-    go (Refused x) f = record { agrees = a; no_conflict = f }
+    go : (x : Propagated) → (number_of x ≡ 22 → ⊥) → Sound α (settled came x o.room)
+    go (Ok n) f = record { agrees = s.agrees; no_conflict = f }
+    go (Err x) f = record { agrees = a; no_conflict = f }
 
 pub sound : (ws gs : List ℤ) (allowance : ℕ) (room : List ℕ) → all_unknown room ≡ true → (α : Assignment) → GivenTrue α gs
     → satisfies_words α ws ≡ true → Sound α (propagated ws gs allowance room)
@@ -257,13 +264,13 @@ sound ws gs allowance room u α t h =
     let s = pass_sound α allowance 0 ws (given_rest gs room).room (given_sound α gs room a t) h in
     go (all_unknown room && (given_rest gs room).held) (settled_sound α room (passed allowance 0 ws (given_rest gs room).room) a s) a
   where
-    go : (b : Bool) {o : Propagating} → Sound α o → Agrees α room → Sound α (cond b o (record { answer = Refused Given; room = room }))
+    go : (b : Bool) {o : Propagating} → Sound α o → Agrees α room → Sound α (cond b o (record { answer = Err Given; room = room }))
     go true s a = s
     go false s a = record { agrees = a; no_conflict = λ z. omega arith }
 
 -- ---- the count
 
-pass_count : (allowance count : ℕ) (ws : List ℤ) (room : List ℕ) (n : ℕ) → (passed allowance count ws room).answer ≡ Read n
+pass_count : (allowance count : ℕ) (ws : List ℤ) (room : List ℕ) (n : ℕ) → (passed allowance count ws room).answer ≡ Ok n
     → n ≡ count + length (clauses_of ws)
 unfolding passed clauses_from
 pass_count zero count [] room n e = let f : count ≡ n = cc in omega arith
@@ -272,23 +279,30 @@ pass_count (suc allowance) count [] room n e = let f : count ≡ n = cc in omega
 pass_count (suc allowance) count (w ∷ ws) room n e =
     go (reading_clause room (w ∷ ws)) refl (λ k l. pass_count allowance (suc count) (drop k (w ∷ ws)) l n) e
   where
-    counted : (d : Verdict) (k : ℕ) → reading_clause room (w ∷ ws) ≡ Closed d k → n ≡ suc count + length (clauses_of (drop k (w ∷ ws)))
+    counted : (d : Verdict) (k : ℕ) → reading_clause room (w ∷ ws) ≡ closed d k → n ≡ suc count + length (clauses_of (drop k (w ∷ ws)))
         → n ≡ count + length (clauses_of (w ∷ ws))
     counted d k q f =
         let r = first_of (read_off room) room (w ∷ ws) d k (λ v p h. value_read_off room v (omega arith)) q in
         omega (arith, f, ap length r.1)
 
-    go : (r : Reading) → reading_clause room (w ∷ ws) ≡ r
-        → ((k : ℕ) (l : List ℕ) → (passed allowance (suc count) (drop k (w ∷ ws)) l).answer ≡ Read n
+    by : (d : Verdict) (k : ℕ) → reading_clause room (w ∷ ws) ≡ closed d k
+        → ((k : ℕ) (l : List ℕ) → (passed allowance (suc count) (drop k (w ∷ ws)) l).answer ≡ Ok n
         → n ≡ suc count + length (clauses_of (drop k (w ∷ ws))))
-        → (on_or_stop (turn_of r) (room_of r room) (λ k. passed allowance (suc count) (drop k (w ∷ ws)) (room_of r room))).answer ≡ Read n
+        → (on_or_stop (turn_by d k) (room_by d room) (λ k. passed allowance (suc count) (drop k (w ∷ ws)) (room_by d room))).answer ≡ Ok n
         → n ≡ count + length (clauses_of (w ∷ ws))
-    go Broken q f h = absurd (let z : ◌≡◌ {A = ℕ} 0 1 = cc in omega arith)
-    go (Closed AllFalse k) q f h = absurd (let z : ◌≡◌ {A = ℕ} 0 1 = cc in omega arith)
-    go (Closed (Sets v b) k) q f h = counted (Sets v b) k q (f k (set room (v - 1) b) h)
-    go (Closed Passes k) q f h = counted Passes k q (f k room h)
+    by AllFalse k q f h = absurd (let z : ◌≡◌ {A = ℕ} 0 1 = cc in omega arith)
+    by (Sets v b) k q f h = counted (Sets v b) k q (f k (set room (v - 1) b) h)
+    by Passes k q f h = counted Passes k q (f k room h)
 
-pub count_read : (ws gs : List ℤ) (allowance : ℕ) (room : List ℕ) (n : ℕ) → (propagated ws gs allowance room).answer ≡ Read n
+    go : (r : Option Reading) → reading_clause room (w ∷ ws) ≡ r
+        → ((k : ℕ) (l : List ℕ) → (passed allowance (suc count) (drop k (w ∷ ws)) l).answer ≡ Ok n
+        → n ≡ suc count + length (clauses_of (drop k (w ∷ ws))))
+        → (on_or_stop (turn_of r) (room_of r room) (λ k. passed allowance (suc count) (drop k (w ∷ ws)) (room_of r room))).answer ≡ Ok n
+        → n ≡ count + length (clauses_of (w ∷ ws))
+    go None q f h = absurd (let z : ◌≡◌ {A = ℕ} 0 1 = cc in omega arith)
+    go (Some r) q f h = by r.verdict r.words q f h
+
+pub count_read : (ws gs : List ℤ) (allowance : ℕ) (room : List ℕ) (n : ℕ) → (propagated ws gs allowance room).answer ≡ Ok n
     → n ≡ length (clauses_of ws)
 unfolding propagated
 count_read ws gs allowance room n e =
@@ -297,11 +311,11 @@ count_read ws gs allowance room n e =
     o : Propagating
     o = passed allowance 0 ws (given_rest gs room).room
 
-    after : (a : Propagated) → o.answer ≡ a → (settled room a o.room).answer ≡ Read n → n ≡ length (clauses_of ws)
-    after (Read k) q f = pass_count allowance 0 ws (given_rest gs room).room n (q ∙ f) ∙ omega arith
-    after (Refused x) q f = absurd (let z : ◌≡◌ {A = ℕ} 0 1 = cc in omega arith)
+    after : (a : Propagated) → o.answer ≡ a → (settled room a o.room).answer ≡ Ok n → n ≡ length (clauses_of ws)
+    after (Ok k) q f = pass_count allowance 0 ws (given_rest gs room).room n (q ∙ f) ∙ omega arith
+    after (Err x) q f = absurd (let z : ◌≡◌ {A = ℕ} 0 1 = cc in omega arith)
 
-    go : (b : Bool) → (cond b (settled room o.answer o.room) (record { answer = Refused Given; room = room })).answer ≡ Read n
+    go : (b : Bool) → (cond b (settled room o.answer o.room) (record { answer = Err Given; room = room })).answer ≡ Ok n
         → n ≡ length (clauses_of ws)
     go true f = after o.answer refl f
     go false f = absurd (let z : ◌≡◌ {A = ℕ} 0 1 = cc in omega arith)

@@ -8,16 +8,16 @@ use native.Mathlib.Omega.{arith}
 use lib.Dec.{eqb, ltb}
 use lib.IntN.{ℤ, pos}
 use lib.ListN.{length, drop, set, length-append}
+use Rattle.std.specs.Prelude.{Option}
 use Rattle.cnf.specs.Clause.{Literal, Clause, flips}
 use Rattle.cnf.specs.Words.{From1, word_by, word, words}
 use Rattle.cnf.proofs.Extend.{Literals}
 use Rattle.cnf.proofs.Words.{named_word, words_append}
-use Rattle.propagate.specs.Clause.{byte, wanted, value_at, with_literal, reading}
+use Rattle.propagate.specs.Clause.{byte, wanted, value_at, with_literal, closed, reading}
 use Rattle.propagate.specs.Pass.{turn_of, room_of, on_or_stop, passed}
 use Rattle.propagate.specs.declared.Verdict.{Verdict}
 use Rattle.propagate.specs.declared.Verdict.TheVariants.{AllFalse, Sets, Passes}
 use Rattle.propagate.specs.declared.Reading.{Reading}
-use Rattle.propagate.specs.declared.Reading.TheVariants.{Closed}
 use Rattle.propagate.proofs.Scan.{reading_closed, reading_on}
 use Rattle.propagate.proofs.Passing.{passed_clause}
 
@@ -47,12 +47,12 @@ reading_word room d n l ws p h =
     ∙ ap₂ (λ (v m : ℕ). reading room (with_literal d v m (value_at room v)) (suc n) ws) e (wanted_word l p)
 
 reading_words : (room : List ℕ) (d : Verdict) (n : ℕ) (c : Clause) (ws : List ℤ) → Literals From1 (suc (length room)) c
-    → reading room d n (map word c ++ (pos 0 ∷ ws)) ≡ Closed (verdict room d c) (n + suc (length c))
-reading_words room d n [] ws i = reading_closed room d n (pos 0) ws refl ∙ ap (Closed d) (sym (omega arith))
+    → reading room d n (map word c ++ (pos 0 ∷ ws)) ≡ closed (verdict room d c) (n + suc (length c))
+reading_words room d n [] ws i = reading_closed room d n (pos 0) ws refl ∙ ap (closed d) (sym (omega arith))
 reading_words room d n (l ∷ c) ws i =
     reading_word room d n l (map word c ++ (pos 0 ∷ ws)) i.0.0 (omega (arith, i.0.1))
     ∙ reading_words room (literal_seen room d l) (suc n) c ws i.1
-    ∙ ap (Closed (verdict room d (l ∷ c))) (suc-add n (suc (length c)) ∙ sym (add-suc n (suc (length c))))
+    ∙ ap (closed (verdict room d (l ∷ c))) (suc-add n (suc (length c)) ∙ sym (add-suc n (suc (length c))))
 
 -- ---- clauses in a row: the pass goes over them and leaves another room
 
@@ -82,13 +82,13 @@ drop_clause c ws = ap (λ (k : ℕ). drop k (map word c ++ (pos 0 ∷ ws))) (zer
     go [] = refl
     go (l ∷ c) = go c
 
-some_word : (c : Clause) (ws : List ℤ) → map word c ++ (pos 0 ∷ ws) ≡ [] → ⊥
-some_word [] ws e = let z : ◌≡◌ {A = ℕ} 0 1 = cc in omega arith
-some_word (l ∷ c) ws e = let z : ◌≡◌ {A = ℕ} 0 1 = cc in omega arith
+some_word : (c : Clause) (ws : List ℤ) → length (map word c ++ (pos 0 ∷ ws)) ≡ 0 → ⊥
+some_word [] ws e = omega arith
+some_word (l ∷ c) ws e = omega arith
 
 module _ (room : List ℕ) (c : Clause) (cs : List Clause) (room' : List ℕ) (i : Literals From1 (suc (length room)) c) where
   -- a clause in front
-  over_clause : (d : Verdict) → verdict room AllFalse c ≡ d → (allowance count : ℕ) (ws : List ℤ) → let r = Closed d (0 + suc (length c)) in
+  over_clause : (d : Verdict) → verdict room AllFalse c ≡ d → (allowance count : ℕ) (ws : List ℤ) → let r = closed d (0 + suc (length c)) in
       passed (length (c ∷ cs) + allowance) count (words (c ∷ cs) ++ ws) room
       ≡ on_or_stop (turn_of r) (room_of r room)
       (λ n. passed (length cs + allowance) (suc count) (drop n (map word c ++ (pos 0 ∷ (words cs ++ ws)))) (room_of r room))
@@ -96,9 +96,9 @@ module _ (room : List ℕ) (c : Clause) (cs : List Clause) (room' : List ℕ) (i
       let l : List ℤ = map word c ++ (pos 0 ∷ (words cs ++ ws)) in
       ap₂ (λ (a : ℕ) (k : List ℤ). passed a count k room) (suc-add (length cs) allowance) (append_assoc (map word c) (pos 0 ∷ words cs) ws)
       ∙ passed_clause (length cs + allowance) count l room (some_word c (words cs ++ ws))
-      ∙ ap (λ (r : Reading). on_or_stop (turn_of r) (room_of r room)
+      ∙ ap (λ (r : Option Reading). on_or_stop (turn_of r) (room_of r room)
       (λ n. passed (length cs + allowance) (suc count) (drop n l) (room_of r room)))
-      (reading_words room AllFalse 0 c (words cs ++ ws) i ∙ ap (λ (x : Verdict). Closed x (0 + suc (length c))) e)
+      (reading_words room AllFalse 0 c (words cs ++ ws) i ∙ ap (λ (x : Verdict). closed x (0 + suc (length c))) e)
 
   rest_of : (r : List ℕ) → PassesOver r cs room' → (allowance count : ℕ) (ws : List ℤ)
       → passed (length cs + allowance) (suc count) (drop (0 + suc (length c)) (map word c ++ (pos 0 ∷ (words cs ++ ws)))) r

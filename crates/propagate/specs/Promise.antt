@@ -1,10 +1,9 @@
 -- What the answers of a pass are to mean: for clauses that open variables step by step, and for any words.
-use Rattle.std.specs.Prelude.{ℕ, ◌≤◌, ◌<◌, ◌≡◌, ◌⊎◌, true, List, [], ◌∷◌, eqb, ℤ, length}
+use Rattle.std.specs.Prelude.{ℕ, ◌≤◌, ◌<◌, ◌≡◌, ◌⊎◌, true, List, [], ◌∷◌, eqb, ℤ, length, Ok}
 use Rattle.cnf.specs.Clause.{Clause, Assignment, value, satisfies}
 use Rattle.cnf.specs.Words.{named, names, literal_of_word}
 use Rattle.propagate.specs.Clause.{wanted, byte, value_at}
 use Rattle.propagate.specs.Pass.{Propagating}
-use Rattle.propagate.specs.declared.Propagated.TheVariants.{Read}
 
 -- ---- what stands in the room
 
@@ -24,7 +23,7 @@ abbrev pub GivenOrNew : List ℤ → ℕ → ℕ → Type 0
 GivenOrNew given n v = (names v given ≡ true) ⊎ (n ≤ v)
 
 pub record SetsAll (n next : ℕ) (cs : List Clause) (given : List ℤ) (room : List ℕ) (o : Propagating) : Type 0 where
-  pub read : o.answer ≡ Read (length cs)
+  pub read : o.answer ≡ Ok (length cs)
   pub long : length o.room ≡ length room
   pub holds : TrueIn o.room given
   pub set : (v : ℕ) → n ≤ v → v < next → value_at o.room v < 2

@@ -2,10 +2,11 @@
 
 #![tactic(auto)]
 
-ghost use Rattle.std.specs.Prelude.{◌≡◌, ◌<◌, ◌≤◌, length};
+ghost use Rattle.std.specs.Prelude.{◌≡◌, ◌<◌, ◌≤◌, if◌then◌else◌, length};
 ghost use Rattle.propagate.specs.Clause.{wanted, with_literal, reading_clause};
 ghost use Rattle.propagate.specs.Pass.{propagating, turn_of, room_of, passed, given_rest, all_unknown, unknowns, propagated};
-ghost use Rattle.propagate.specs.Pass.{propagated_number, clauses_read};
+ghost use Rattle.propagate.specs.Pass.{clauses_read};
+ghost use Rattle.line.specs.declared.Refusal.TheVariants.{Given};
 
 use cnf::named;
 use line::Refusal;
@@ -19,61 +20,33 @@ pub enum Verdict {
     Passes,
 }
 
-// The verdict on the first clause of words, and how many words it has with its 0; or no clause that fits the room.
+// The verdict on the first clause of words, and how many words it has with its 0.
 #[derive(Clone, Copy)]
-pub enum Reading {
-    Broken,
-    Closed { verdict: Verdict, words: usize },
+pub struct Reading {
+    pub verdict: Verdict,
+    pub words: usize,
 }
 
-// What a clause makes of the pass: on behind its words, or no further.
-#[derive(Clone, Copy)]
-pub enum Turn {
-    On(usize),
-    Stop(Refusal),
-}
-
-#[derive(Clone, Copy)]
-pub enum Propagated {
-    Read(u64),
-    Refused(Refusal),
-}
-
-impl Propagated {
-    // The refusal's number, 0 for success.
-    pub fn number(self) -> u64
-        ensures { (result ≡ propagated_number self) × (result < 100) }
-    {
-        match self {
-            Propagated::Read(_) => 0,
-            Propagated::Refused(x) => x.number(),
-        }
-    }
-
-    // The clauses read, zero in a refusal.
-    pub fn clauses(self) -> u64
-        ensures { result ≡ clauses_read self }
-    {
-        match self {
-            Propagated::Read(n) => n,
-            Propagated::Refused(_) => 0,
-        }
-    }
+// The clauses read, zero in a refusal: std's `unwrap_or` under the documents' name, which a function for all three would not say shorter.
+pub fn clauses_of(propagated: Result<u64, Refusal>) -> u64
+    ensures { result ≡ clauses_read propagated }
+{
+    propagated.unwrap_or(0)
 }
 
 // ---- a word
 
-// The value of its variable at which a word's literal is true.
+// The value of its variable at which a word's literal is true. Values are bytes and no enum: C lends the room so.
 fn wanted(w: i32) -> u8
     ensures { (result ≡ wanted w) × (result ≤ 1) }
 {
-    if w < 0 { 0 } else { 1 }
+    u8::from(w >= 0)
 }
 
 // ---- a clause
 
 // The verdict with one literal more: of a variable whose value is given, true where that is the one wanted.
-#[tactic(auto, using(crate::proofs::Scan::one_literal_more))]
+#[tactic(auto, unfolding(crate::specs::Clause::with_literal))]
 fn with_literal(sofar: Verdict, variable: usize, wanted: u8, value: u8) -> Verdict
     ensures { result ≡ with_literal sofar variable wanted value }
 {
@@ -91,159 +64,118 @@ fn with_literal(sofar: Verdict, variable: usize, wanted: u8, value: u8) -> Verdi
         Verdict::Sets {
             variable: v,
             value: b,
-        } => {
-            if v != variable {
-                return Verdict::Passes;
-            }
-            if b != wanted {
-                return Verdict::Passes;
-            }
-            sofar
-        }
-        Verdict::Passes => Verdict::Passes,
+        } if v == variable && b == wanted => sofar,
+        _ => Verdict::Passes,
     }
 }
 
-// The first clause of words.
-fn read_clause(words: &[i32], values: &[u8]) -> Reading
+// The first clause of words; none where they end inside it, or a variable is above the room. (u64 has no From to usize.)
+#[tactic(auto, using(crate::proofs::Scan::word_by_word))]
+fn read_clause(words: &[i32], values: &[u8]) -> Option<Reading>
     ensures { result ≡ reading_clause values.now words.now }
 {
     let mut verdict = Verdict::AllFalse;
-    let mut i: usize = 0;
-    let answer = loop {
-        if i == words.len() {
-            break Reading::Broken;
-        }
-        let w = words[i];
-        let v = named(w) as usize;
-        i += 1;
+    for (i, w) in words.iter().enumerate() {
+        let v = named(*w) as usize;
         if v == 0 {
-            break Reading::Closed { verdict, words: i };
+            return Some(Reading {
+                verdict,
+                words: i + 1,
+            });
         }
-        if v > values.len() {
-            break Reading::Broken;
-        }
-        verdict = with_literal(verdict, v, wanted(w), values[v - 1]);
-    };
-    answer
+        let value = values.get(v - 1)?;
+        verdict = with_literal(verdict, v, wanted(*w), *value);
+    }
+    None
 }
 
 // ---- the pass
 
-// One clause: what it sets is set.
-fn step(words: &[i32], values: &mut [u8]) -> Turn
+// One clause: what it sets is set, and its words are counted.
+#[tactic(auto, using(crate::proofs::Passing::sets_inside))]
+fn step(words: &[i32], values: &mut [u8]) -> Result<usize, Refusal>
     ensures value { result ≡ turn_of (reading_clause values.old words.now) }
     ensures values_after { values.new ≡ room_of (reading_clause values.old words.now) values.old }
 {
-    let reading = read_clause(words, values);
-    match reading {
-        Reading::Broken => Turn::Stop(Refusal::Words),
-        Reading::Closed { verdict, words } => match verdict {
-            Verdict::AllFalse => Turn::Stop(Refusal::Conflict),
-            Verdict::Sets { variable, value } => {
-                values[variable - 1] = value;
-                Turn::On(words)
-            }
-            Verdict::Passes => Turn::On(words),
-        },
+    let clause = read_clause(words, values).ok_or(Refusal::Words)?;
+    match clause.verdict {
+        Verdict::AllFalse => return Err(Refusal::Conflict),
+        Verdict::Sets { variable, value } => values[variable - 1] = value,
+        Verdict::Passes => {}
     }
+    Ok(clause.words)
 }
 
-// The clauses once, in order; each costs one of the allowance.
-fn pass(words: &[i32], allowance: u64, values: &mut [u8]) -> Propagated
+// The clauses once, in order; each costs one of the allowance. A `while` over what is left, since each clause says how many words it has.
+#[tactic(auto, using(crate::proofs::Passing::clause_by_clause))]
+fn pass(words: &[i32], allowance: u64, values: &mut [u8]) -> Result<u64, Refusal>
     ensures { propagating result values.new ≡ passed allowance 0 words.now values.old }
 {
-    let mut at: usize = 0;
+    let mut rest = words;
     let mut spent: u64 = 0;
-    let answer = loop {
-        if at == words.len() {
-            break Propagated::Read(spent);
-        }
+    while !rest.is_empty() {
         if spent == allowance {
-            break Propagated::Refused(Refusal::Allowance);
+            return Err(Refusal::Allowance);
         }
-        match step(&words[at..], values) {
-            Turn::On(n) => {
-                at += n;
-                spent += 1;
-            }
-            Turn::Stop(x) => break Propagated::Refused(x),
-        }
-    };
-    answer
+        rest = &rest[step(rest, values)?..];
+        spent += 1;
+    }
+    Ok(spent)
 }
 
 // ---- the call
 
 // Whether every byte is 2.
-#[tactic(auto, using(crate::proofs::Giving::looking_finds_left))]
+#[tactic(auto, unfolding(crate::specs::Pass::all_unknown))]
 fn all_unknown(values: &[u8]) -> bool
     ensures { result ≡ all_unknown values.now }
 {
-    let mut i: usize = 0;
-    while i < values.len() {
-        if values[i] != 2 {
-            return false;
-        }
-        i += 1;
-    }
-    true
+    values.iter().all(|b| *b == 2)
 }
 
 fn forget(values: &mut [u8])
     ensures { values.new ≡ unknowns (length values.old) }
 {
-    let mut i: usize = 0;
-    while i < values.len() {
-        values[i] = 2;
-        i += 1;
-    }
+    values.fill(2);
 }
 
-// Takes the literals as true, up to one that cannot be taken.
-#[tactic(auto, using(crate::proofs::Giving::giving_before_left))]
-fn give(given: &[i32], values: &mut [u8]) -> bool
-    ensures value { result ≡ (given_rest given.now values.old).held }
+// Takes the literals as true, up to one that cannot be taken, which refuses them.
+#[tactic(auto, using(crate::proofs::Giving::literal_by_literal))]
+fn give(given: &[i32], values: &mut [u8]) -> Result<(), Refusal>
+    ensures value { result ≡ (if (given_rest given.now values.old).held then Ok tt else Err Given) }
     ensures values_after { values.new ≡ (given_rest given.now values.old).room }
 {
-    let mut i: usize = 0;
-    while i < given.len() {
-        let w = given[i];
-        let v = named(w) as usize;
-        if v == 0 {
-            return false;
+    for w in given {
+        let v = named(*w) as usize;
+        if v == 0 || v > values.len() || values[v - 1] < 2 {
+            return Err(Refusal::Given);
         }
-        if v > values.len() {
-            return false;
-        }
-        if values[v - 1] < 2 {
-            return false;
-        }
-        values[v - 1] = wanted(w);
-        i += 1;
+        values[v - 1] = wanted(*w);
     }
-    true
+    Ok(())
 }
 
 // The words, the literals that hold, the allowance of clauses and the value room, one byte for each variable: 0 false, 1 true, 2 unknown.
-#[tactic(auto, using(crate::proofs::Giving::call_by_facts))]
-pub fn propagate(words: &[i32], given: &[i32], allowance: u64, values: &mut [u8]) -> Propagated
+#[tactic(auto, using(crate::proofs::Giving::unknown_room), unfolding(crate::specs::Pass::propagated))]
+pub fn propagate(
+    words: &[i32],
+    given: &[i32],
+    allowance: u64,
+    values: &mut [u8],
+) -> Result<u64, Refusal>
     ensures { propagating result values.new
         ≡ propagated words.now given.now allowance values.old }
 {
     if !all_unknown(values) {
-        return Propagated::Refused(Refusal::Given);
+        return Err(Refusal::Given);
     }
-    if !give(given, values) {
+    if let Err(x) = give(given, values) {
         forget(values);
-        return Propagated::Refused(Refusal::Given);
+        return Err(x);
     }
     let answer = pass(words, allowance, values);
-    match answer {
-        Propagated::Read(_) => answer,
-        Propagated::Refused(_) => {
-            forget(values);
-            answer
-        }
+    if answer.is_err() {
+        forget(values);
     }
+    answer
 }

@@ -14,6 +14,7 @@
 --
 -- What follows of an accepted recipe: every operand's coefficient is odd, and below 2^20 (`coefficient_lt` of Walk), so every line has s of
 -- at least 1. Assumes nothing.
+use Rattle.std.specs.Prelude.{Ok, Err}
 use mathlib.Core.Path.{◌≡◌, refl, ap, ◌∙◌, sym, subst}
 use mathlib.Core.List.{List, [], ◌∷◌}
 use mathlib.Core.Bool.{Bool, not}
@@ -25,15 +26,13 @@ use lib.ListN.{length}
 use borrow.Author.Tests.{eqb-true, eq-eqb, ltb-false, le-ltb, not-false}
 use Rattle.line.specs.Limits.{out_of_range}
 use Rattle.line.specs.Number.{odd_part}
-use Rattle.line.specs.Order.{refuses, first_broken}
+use Rattle.line.specs.Order.{Verdict, refuses, first_broken}
 use Rattle.line.specs.Line.{Kind, splus, sminus, minuss, kind_of, kind_gives}
 use Rattle.line.specs.declared.Line.{Line}
 use Rattle.line.specs.declared.Refusal.{Refusal}
 use Rattle.line.specs.declared.Refusal.TheVariants.{Constant, Length, Value, Product}
 use Rattle.line.proofs.Value.{Sums, sums_of_gives}
-use Rattle.recipe.specs.declared.Checked.{Checked}
-use Rattle.recipe.specs.declared.Checked.TheVariants.{Accepted, Refused}
-use Rattle.line.specs.declared.Verdict.TheVariants.{Kept}
+use Rattle.recipe.specs.Check.{Checked}
 use Rattle.line.proofs.Order.{missed, kept_both, both_kept, kept_all, behind_kept, within, within_kept}
 use Rattle.recipe.specs.Check.{judged, judged_at, line_at, coefficient_at, lines_judged, form_judged, product_at, recipe_judged}
 use Rattle.recipe.specs.Check.{checked}
@@ -45,10 +44,10 @@ use Rattle.recipe.proofs.Walk.{judged_value}
 -- ---- one line
 
 module _ (line : Line) (i l r : ℕ) where
-  kept_right : line.kind ≤ 3 → line.coefficient ≤ 1048575 → judged line i l r ≡ Kept → LineRight line i l r
+  kept_right : line.kind ≤ 3 → line.coefficient ≤ 1048575 → judged line i l r ≡ Ok tt → LineRight line i l r
   kept_right m n e = subst (Says line i l r) e (judged_says line i l r m n)
 
-  right_kept : LineRight line i l r → judged line i l r ≡ Kept
+  right_kept : LineRight line i l r → judged line i l r ≡ Ok tt
   right_kept g =
       let z = kind_gives line l r in
       judged_value line i l r (omega arith) (omega arith) g.left g.right (omega arith)
@@ -58,9 +57,9 @@ module _ (line : Line) (i l r : ℕ) where
 
 -- n lines from line i + 1 on are kept
 abbrev KeptLines : List ℕ → ℕ → ℕ → Type 0
-KeptLines s n i = (j : ℕ) → i ≤ j → j < i + n → judged_at s j ≡ Kept
+KeptLines s n i = (j : ℕ) → i ≤ j → j < i + n → judged_at s j ≡ Ok tt
 
-lines_kept : (s : List ℕ) (n i : ℕ) → lines_judged s n i ≡ Kept → KeptLines s n i
+lines_kept : (s : List ℕ) (n i : ℕ) → lines_judged s n i ≡ Ok tt → KeptLines s n i
 unfolding lines_judged
 lines_kept s zero i e = λ j h h'. absurd (omega arith)
 lines_kept s (suc n) i e =
@@ -68,7 +67,7 @@ lines_kept s (suc n) i e =
     λ j h h'. elim (ℕ_discrete i j)
     [ yes p ↦ ap (judged_at s) (sym p) ∙ b.0 | no q ↦ lines_kept s n (suc i) b.1 j (omega arith) (omega arith) ]
 
-kept_lines : (s : List ℕ) (n i : ℕ) → KeptLines s n i → lines_judged s n i ≡ Kept
+kept_lines : (s : List ℕ) (n i : ℕ) → KeptLines s n i → lines_judged s n i ≡ Ok tt
 unfolding lines_judged
 kept_lines s zero i k = refl
 kept_lines s (suc n) i k =
@@ -78,7 +77,7 @@ kept_lines s (suc n) i k =
 -- ---- rules 3 to 8
 
 module _ (d : ℕ) (s : List ℕ) where
-  pub kept_makes : recipe_judged d s ≡ Kept → Makes d s
+  pub kept_makes : recipe_judged d s ≡ Ok tt → Makes d s
   unfolding recipe_judged form_judged
   kept_makes e =
       let k = kept_all (form_judged s ∷ refuses (not (eqb (product_at s) d)) Product ∷ []) e in
@@ -93,7 +92,7 @@ module _ (d : ℕ) (s : List ℕ) where
         product = eqb-true _ _ (not-false _ (missed _ Product k.1.0));
       }
 
-  pub makes_kept : Makes d s → recipe_judged d s ≡ Kept
+  pub makes_kept : Makes d s → recipe_judged d s ≡ Ok tt
   unfolding recipe_judged form_judged
   makes_kept g =
       let lines = kept_lines s (length s / 5) 0 (λ j h h'. right_kept (line_at s j) j _ _ (g.line j (omega arith))) in
@@ -102,19 +101,19 @@ module _ (d : ℕ) (s : List ℕ) where
 -- ---- the whole check
 
 module _ (c : ℕ) (s : List ℕ) where
-  pub accepted_right : checked c s ≡ Accepted → Right c s
+  pub accepted_right : checked c s ≡ Ok tt → Right c s
   unfolding checked
   accepted_right e =
       let tests = refuses (out_of_range c) Constant ∷ recipe_judged (odd_part c) s ∷ [] in
       let k =
-      kept_all tests (behind_kept (λ (a : Checked). a ≡ Accepted) Refused Accepted (λ x q. refused x q) (first_broken tests) e).0 in
+      kept_all tests (behind_kept (λ (a : Checked). a ≡ Ok tt) Err (Ok tt) (λ x q. refused x q) (first_broken tests) e).0 in
       let h = within 65535 c (missed (out_of_range c) Constant k.0) in
       record { least = h.0; most = h.1; makes = kept_makes (odd_part c) s k.1.0 }
     where
-      refused : (x : Refusal) → Refused x ≡ Accepted → ⊥
+      refused : (x : Refusal) → ◌≡◌ {A = Verdict} (Err x) (Ok tt) → ⊥
       refused x e = let z : ◌≡◌ {A = ℕ} 0 1 = cc in omega arith
 
-  pub right_accepted : Right c s → checked c s ≡ Accepted
+  pub right_accepted : Right c s → checked c s ≡ Ok tt
   unfolding checked
   right_accepted g = rw (within_kept 65535 c g.least g.most, makes_kept (odd_part c) s g.makes)
 

@@ -1,17 +1,18 @@
 -- The definition of checking gives the worked cases' numbers, lines and values, by computation. Assumes nothing.
 use mathlib.Core.Path.{◌≡◌, refl}
 use mathlib.Core.List.{List, map}
+use Rattle.line.specs.Refusal.{told_of}
 use Rattle.line.specs.Number.{halvings_by, twos, odd_part}
 use Rattle.line.specs.Line.{kind_of, gives}
 use Rattle.line.specs.declared.Told.{Told}
-use Rattle.recipe.specs.Check.{checked_told, claims, judged, lines_judged, form_judged, recipe_judged, checked}
+use Rattle.recipe.specs.Check.{claims, judged, lines_judged, form_judged, recipe_judged, checked}
 use Rattle.cases.specs.Table.{Checked}
 use Rattle.cases.specs.Bench.{bench}
 use Rattle.cases.specs.Agreed.{agreed}
 
 -- what the definition tells of the case
 abbrev told : Checked → Told
-told k = checked_told (checked k.c k.recipe)
+told k = told_of (checked k.c k.recipe)
 
 -- the case as the definition answers it
 abbrev pub answered : Checked → Checked

@@ -1,6 +1,7 @@
 -- What the verdict on a line says: a line that is kept is right, and of one that breaks a rule the refusal tells the first rule that it
 -- breaks, its number in the recipe, and where the rule is 7 what it gives (`judged_says`). The verdict is a chain of tests; the test that
 -- broke names the rule, and those before it were passed. A line breaks no two rules first (`breaks_once`). Assumes nothing.
+use Rattle.std.specs.Prelude.{Ok, Err}
 use mathlib.Core.Path.{◌≡◌, refl, ap, ap₂, ◌∙◌, sym}
 use mathlib.Core.Bool.{not, cond, true≢false}
 use Prim.Native.Nat.{ℕ, ◌+◌, ◌%◌, ◌≤◌, ◌<◌}
@@ -15,8 +16,7 @@ use Rattle.line.specs.declared.Line.{Line}
 use Rattle.line.specs.declared.Told.{Told}
 use Rattle.line.specs.declared.Refusal.TheVariants.{Form, Operand, Even, Value}
 use Rattle.line.proofs.Order.{by_test}
-use Rattle.line.specs.declared.Verdict.{Verdict}
-use Rattle.line.specs.declared.Verdict.TheVariants.{Kept, Broken}
+use Rattle.line.specs.Order.{Verdict}
 use Rattle.recipe.specs.Check.{claims, judged}
 use Rattle.recipe.specs.Accepted.{LineRight}
 use Rattle.recipe.specs.Refused.{LineRule, form, operand, odd, value, rule_number, Keeps, value_told, Breaks}
@@ -42,8 +42,8 @@ module _ (line : Line) (i l r : ℕ) where
 
   -- what a verdict says of line i + 1
   abbrev pub Says : Verdict → Type 0
-  Says Kept = LineRight line i l r
-  Says (Broken x) = Breaks line i l r (told x)
+  Says (Ok u) = LineRight line i l r
+  Says (Err x) = Breaks line i l r (told x)
 
   -- what is told of rule e
   abbrev told_of : LineRule → Told
@@ -76,7 +76,7 @@ module _ (line : Line) (i l r : ℕ) where
       (λ k. omega (arith, eqb-true (line.coefficient % 2) 0 e, k)))
       (λ e₅.
       let p : Keeps odd line i l r = omega (arith, eqb-false (line.coefficient % 2) 0 e₅) in
-      by_test Says (not (claims line.coefficient given)) (Value (i + 1) given) Kept
+      by_test Says (not (claims line.coefficient given)) (Value (i + 1) given) (Ok tt)
       (λ e. breaks value (omega arith) (λ h. f) (λ h. o) (λ h. p)
       (λ k. true≢false (sym (true_claims line.coefficient given k) ∙ not-true (claims line.coefficient given) e)))
       (λ e.

@@ -8,6 +8,7 @@
 --
 -- Why. The walk goes on over lines that are kept, which are right, up to the first that is not, or to the product behind the last
 -- (`walked`). One recipe has one first bad line, and of that one thing is told (`first_bad_once`). Assumes nothing.
+use Rattle.std.specs.Prelude.{Ok, Err}
 use mathlib.Core.Path.{◌≡◌, sym, ap, subst}
 use mathlib.Core.Bool.{not}
 use mathlib.Core.List.{List, [], ◌∷◌}
@@ -22,17 +23,15 @@ use Rattle.line.specs.Limits.{out_of_range}
 use Rattle.line.specs.Number.{odd_part}
 use Rattle.line.specs.Order.{refuses, unless_broken, first_broken, answer_by}
 use Rattle.line.specs.Line.{kind_of}
-use Rattle.line.specs.Refusal.{told, refusal_number}
+use Rattle.line.specs.Refusal.{told, refusal_number, told_of}
 use Rattle.line.specs.declared.Told.{Told}
 use Rattle.line.specs.declared.Refusal.{Refusal}
 use Rattle.line.specs.declared.Refusal.TheVariants.{Constant, Length, Product}
 use Rattle.line.proofs.Order.{by_test, within_kept}
 use Rattle.line.proofs.Value.{gives_small}
-use Rattle.recipe.specs.declared.Checked.TheVariants.{Accepted, Refused}
-use Rattle.line.specs.declared.Verdict.{Verdict}
-use Rattle.line.specs.declared.Verdict.TheVariants.{Kept, Broken}
+use Rattle.line.specs.Order.{Verdict}
 use Rattle.recipe.specs.Check.{line_at, left_coefficient, right_coefficient, judged_at}
-use Rattle.recipe.specs.Check.{lines_judged, form_judged, product_at, recipe_judged, checked, checked_told}
+use Rattle.recipe.specs.Check.{lines_judged, form_judged, product_at, recipe_judged, checked}
 use Rattle.recipe.specs.Accepted.{RightAt}
 use Rattle.recipe.specs.Refused.{LineRule, form, operand, odd, value, value_told, Breaks, FirstBad}
 use Rattle.recipe.proofs.Judged.{Says, judged_says, right_unbroken, breaks_once}
@@ -70,8 +69,8 @@ module _ (s : List ℕ) where
 
   -- the verdict of a walk over the lines before line n + 1: all of them are right, or it tells of the first bad one
   abbrev Walked : ℕ → Verdict → Type 0
-  Walked n Kept = RightBefore n
-  Walked n (Broken x) = FirstBad s (told x)
+  Walked n (Ok u) = RightBefore n
+  Walked n (Err x) = FirstBad s (told x)
 
   one_more : (i : ℕ) → RightBefore i → RightAt s i → RightBefore (suc i)
   one_more i b g j h =
@@ -83,8 +82,8 @@ module _ (s : List ℕ) where
   -- one line of the walk
   turn : (m i : ℕ) → i < length s / 5 → RightBefore i → (v later : Verdict) → SaysAt i v
       → (RightBefore (suc i) → Walked m later) → Walked m (unless_broken v later)
-  turn m i h b Kept later g go = go (one_more i b g)
-  turn m i h b (Broken x) later g go = record { place = i; within = h; before = b; bad = g }
+  turn m i h b (Ok u) later g go = go (one_more i b g)
+  turn m i h b (Err x) later g go = record { place = i; within = h; before = b; bad = g }
 
   walked : (n i : ℕ) → i + n ≤ length s / 5 → RightBefore i → Walked (i + n) (lines_judged s n i)
   unfolding lines_judged
@@ -118,58 +117,58 @@ module _ (s : List ℕ) where
 
   -- what a verdict tells of a line's rule is told of the first bad line
   abbrev Spoken : Verdict → Type 0
-  Spoken Kept = Unit {0}
-  Spoken (Broken x) = OfALine (told x) → FirstBad s (told x)
+  Spoken (Ok u) = Unit {0}
+  Spoken (Err x) = OfALine (told x) → FirstBad s (told x)
 
-  unspoken : (x : Refusal) → (OfALine (told x) → ⊥) → Spoken (Broken x)
+  unspoken : (x : Refusal) → (OfALine (told x) → ⊥) → Spoken (Err x)
   unspoken x f k = absurd (f k)
 
   lines_spoken : (v later : Verdict) → Walked (length s / 5) v → Spoken later → Spoken (unless_broken v later)
-  lines_spoken Kept later w k = k
-  lines_spoken (Broken x) later w k = λ _. w
+  lines_spoken (Ok u) later w k = k
+  lines_spoken (Err x) later w k = λ _. w
 
   form_spoken : Spoken (form_judged s)
   unfolding form_judged
   form_spoken =
       by_test Spoken (not (eqb (length s % 5) 0)) Length _ (λ _. unspoken Length (λ k. omega (arith, k.0))) (λ _.
       by_test Spoken (ltb 160 (length s)) Length _ (λ _. unspoken Length (λ k. omega (arith, k.0))) (λ _.
-      lines_spoken (lines_judged s (length s / 5) 0) Kept all_walked tt))
+      lines_spoken (lines_judged s (length s / 5) 0) (Ok tt) all_walked tt))
 
   behind : (v later : Verdict) → Spoken v → Spoken later → Spoken (unless_broken v later)
-  behind Kept later k l = l
-  behind (Broken x) later k l = k
+  behind (Ok u) later k l = l
+  behind (Err x) later k l = k
 
   module _ (c : ℕ) where
     spoken : Spoken (first_broken (refuses (out_of_range c) Constant ∷ recipe_judged (odd_part c) s ∷ []))
     unfolding recipe_judged
     spoken =
         by_test Spoken (out_of_range c) Constant _ (λ _. unspoken Constant (λ k. omega (arith, k.0))) (λ _.
-        behind (recipe_judged (odd_part c) s) Kept (behind (form_judged s) _ form_spoken
-        (by_test Spoken (not (eqb (product_at s) (odd_part c))) Product Kept (λ _. unspoken Product (λ k. omega (arith, k.1))) (λ _. tt)))
+        behind (recipe_judged (odd_part c) s) (Ok tt) (behind (form_judged s) _ form_spoken
+        (by_test Spoken (not (eqb (product_at s) (odd_part c))) Product (Ok tt) (λ _. unspoken Product (λ k. omega (arith, k.1))) (λ _. tt)))
         tt)
 
-    refusal_is : (v : Verdict) (x : Refusal) → answer_by Refused Accepted v ≡ Refused x → Spoken v → OfALine (told x)
+    refusal_is : (v : Verdict) (x : Refusal) → answer_by {A = Verdict} Err (Ok tt) v ≡ Err x → Spoken v → OfALine (told x)
         → FirstBad s (told x)
-    refusal_is Kept x e k h = let z : ◌≡◌ {A = ℕ} 0 1 = cc in absurd (omega arith)
-    refusal_is (Broken y) x e k h =
-        let q : told y ≡ told x = ap checked_told e in
+    refusal_is (Ok u) x e k h = let z : ◌≡◌ {A = ℕ} 0 1 = cc in absurd (omega arith)
+    refusal_is (Err y) x e k h =
+        let q : told y ≡ told x = ap told_of e in
         subst (FirstBad s) q (k (subst OfALine (sym q) h))
 
-    pub refused_first_bad : (x : Refusal) → checked c s ≡ Refused x → 4 ≤ refusal_number x → refusal_number x ≤ 7 → FirstBad s (told x)
+    pub refused_first_bad : (x : Refusal) → checked c s ≡ Err x → 4 ≤ refusal_number x → refusal_number x ≤ 7 → FirstBad s (told x)
     unfolding checked
     refused_first_bad x e h h' =
         refusal_is (first_broken (refuses (out_of_range c) Constant ∷ recipe_judged (odd_part c) s ∷ [])) x e spoken (h, h')
 
-    pub first_bad_told : 1 ≤ c → c ≤ 65535 → length s % 5 ≡ 0 → length s ≤ 160 → (t : Told) → FirstBad s t → checked_told (checked c s) ≡ t
+    pub first_bad_told : 1 ≤ c → c ≤ 65535 → length s % 5 ≡ 0 → length s ≤ 160 → (t : Told) → FirstBad s t → told_of (checked c s) ≡ t
     unfolding checked recipe_judged form_judged
     first_bad_told least most whole short t f =
         rw (within_kept 65535 c least most, eq-eqb (length s % 5) 0 whole, le-ltb 160 (length s) short)
         (bad_told (lines_judged s (length s / 5) 0) _ all_walked)
       where
         bad_told : (v later : Verdict) → Walked (length s / 5) v
-            → checked_told (answer_by Refused Accepted (unless_broken (unless_broken (unless_broken v Kept) later) Kept)) ≡ t
-        bad_told Kept later w = absurd (right_not_bad t f.place (w f.place f.within) f.bad)
-        bad_told (Broken x) later w = first_bad_once (told x) t w f
+            → told_of (answer_by {A = Verdict} Err (Ok tt) (unless_broken (unless_broken (unless_broken v (Ok tt)) later) (Ok tt))) ≡ t
+        bad_told (Ok u) later w = absurd (right_not_bad t f.place (w f.place f.within) f.bad)
+        bad_told (Err x) later w = first_bad_once (told x) t w f
 
   pub value_bits : (t : Told) → FirstBad s t → nat_abs t.value < 2 ^ 51
   value_bits t f =

@@ -1,4 +1,5 @@
 -- The check of a recipe's lines, a line at a time. Assumes nothing.
+use Rattle.std.specs.Prelude.{ℤ, Ok, Err}
 use mathlib.Core.Path.{◌≡◌, ap, ap₂, ◌∙◌, sym, subst}
 use mathlib.Core.List.{List, [], ◌∷◌}
 use Prim.Native.Nat.{ℕ, zero, suc, ◌+◌, ◌-◌, ◌*◌, ◌/◌, ◌%◌, ◌^◌, ◌≤◌, ◌<◌}
@@ -13,8 +14,7 @@ use Rattle.line.specs.Line.{kind_gives, line_of, number}
 use Rattle.line.specs.declared.Line.{Line}
 use Rattle.line.specs.declared.Refusal.{Refusal}
 use Rattle.line.specs.declared.Refusal.TheVariants.{Form, Operand, Even}
-use Rattle.line.specs.declared.Verdict.{Verdict}
-use Rattle.line.specs.declared.Verdict.TheVariants.{Kept, Broken}
+use Rattle.line.specs.Order.{Verdict}
 use Rattle.line.specs.Order.{refuses, unless_broken, first_broken}
 use Rattle.line.proofs.Order.{missed, alone, later_same}
 use Rattle.recipe.specs.Check.{value_judged, judged, judged_at, line_at, coefficient_at, lines_judged, form_judged}
@@ -30,7 +30,7 @@ walk_start s h₁ h₂ =
     (alone (lines_judged s (length s / 5) 0) ∙ ap (λ (n : ℕ). lines_judged s n 0) z)
 
 -- no line left
-pub walk_end : (s : List ℕ) (n i : ℕ) → n ≤ i → lines_judged s (n - i) i ≡ Kept
+pub walk_end : (s : List ℕ) (n i : ℕ) → n ≤ i → lines_judged s (n - i) i ≡ Ok tt
 unfolding lines_judged
 walk_end s n i h =
     let e : n - i ≡ 0 = omega arith in
@@ -43,13 +43,13 @@ walk_line s n i h =
     let e : n - i ≡ suc (n - (i + 1)) = omega arith in
     ap (λ (m : ℕ). lines_judged s m i) e
 
-pub walk_on : (s : List ℕ) (n i : ℕ) → i < n → judged_at s i ≡ Kept → lines_judged s (n - i) i ≡ lines_judged s (n - (i + 1)) (i + 1)
+pub walk_on : (s : List ℕ) (n i : ℕ) → i < n → judged_at s i ≡ Ok tt → lines_judged s (n - i) i ≡ lines_judged s (n - (i + 1)) (i + 1)
 walk_on s n i h e =
     walk_line s n i h
     ∙ ap (λ (x : Verdict). unless_broken x (lines_judged s (n - (i + 1)) (suc i))) e
     ∙ ap (lines_judged s (n - (i + 1))) (sym (add-one i))
 
-pub walk_broken : (s : List ℕ) (n i : ℕ) (x : Refusal) → i < n → judged_at s i ≡ Broken x → lines_judged s (n - i) i ≡ Broken x
+pub walk_broken : (s : List ℕ) (n i : ℕ) (x : Refusal) → i < n → judged_at s i ≡ Err x → lines_judged s (n - i) i ≡ Err x
 walk_broken s n i x h e = walk_line s n i h ∙ ap (λ (y : Verdict). unless_broken y (lines_judged s (n - (i + 1)) (suc i))) e
 
 -- ---- a line and its operands
@@ -90,6 +90,13 @@ judged_value line i l r top kind left right even =
       le-ltb i line.right right,
       ne_eqb (line.coefficient % 2) 0 even,
     ) (alone (value_judged line.coefficient (i + 1) (kind_gives line l r)))
+
+-- the same of a number that the line gives
+pub judged_given : (line : Line) (i l r : ℕ) (z : ℤ)
+    → line.top ≤ 0 → (line.kind ≡ 0 → ⊥) → line.left ≤ i → line.right ≤ i → (line.coefficient % 2 ≡ 0 → ⊥) → z ≡ kind_gives line l r
+    → judged line i l r ≡ value_judged line.coefficient (i + 1) z
+judged_given line i l r z top kind left right even e =
+    judged_value line i l r top kind left right even ∙ ap (value_judged line.coefficient (i + 1)) (sym e)
 
 pub judged_seen : (s seen : List ℕ) (line : Line) (i : ℕ) (v : Verdict)
     → v ≡ judged line i (get_or seen line.left 0) (get_or seen line.right 0) → line ≡ line_at s i
@@ -135,7 +142,7 @@ walking_begins s seen h₁ h₂ z o =
       operands = at_zero (λ (j : ℕ). get_or seen j 0 ≡ coefficient_at s j) o;
     }
 
-pub walking_on : (s : List ℕ) (n : ℕ) (seen : List ℕ) (i k : ℕ) → Walking s n seen i → i < n → n ≤ 32 → judged_at s i ≡ Kept
+pub walking_on : (s : List ℕ) (n : ℕ) (seen : List ℕ) (i k : ℕ) → Walking s n seen i → i < n → n ≤ 32 → judged_at s i ≡ Ok tt
     → k ≡ (line_at s i).coefficient
     → Walking s n (set seen (i + 1) k) (i + 1)
 walking_on s n seen i k w h m e q =

@@ -1,22 +1,16 @@
 -- Which recipes are right, and what is wrong with the others (document 01, "Refusal numbers and their order").
-use Rattle.std.specs.Prelude.{ℕ, zero, suc, ◌+◌, ◌*◌, ◌/◌, ◌%◌, Bool, false, not, List, [], ◌∷◌, eqb, ltb, ℤ, pos, negsuc, length, take, drop}
+use Rattle.std.specs.Prelude.{ℕ, zero, suc, ◌+◌, ◌*◌, ◌/◌, ◌%◌, Bool, false, not, List, [], ◌∷◌, eqb, ltb, ℤ, pos, negsuc, length, take, drop, Ok, Err}
 use Rattle.line.specs.Limits.{line_bytes, recipe_bytes, out_of_range}
 use Rattle.line.specs.Number.{odd_part}
 use Rattle.line.specs.Line.{kind_gives, number, line_of}
 use Rattle.line.specs.Order.{refuses, unless_broken, first_broken, in_order}
-use Rattle.line.specs.Refusal.{nothing, told}
 use Rattle.line.specs.declared.Line.{Line}
-use Rattle.line.specs.declared.Told.{Told}
 use Rattle.line.specs.declared.Refusal.TheVariants.{Constant, Length, Form, Operand, Even, Value, Product}
-use Rattle.line.specs.declared.Verdict.{Verdict}
-use Rattle.line.specs.declared.Verdict.TheVariants.{Kept}
-use Rattle.recipe.specs.declared.Checked.{Checked}
-use Rattle.recipe.specs.declared.Checked.TheVariants.{Accepted, Refused}
+use Rattle.line.specs.Order.{Verdict}
 
--- the documents' number of an answer, the bad line and the value that it gives; all zero in success
-abbrev pub checked_told : Checked → Told
-checked_told Accepted = nothing
-checked_told (Refused x) = told x
+-- what the check answers: the recipe is right, or why it is not
+abbrev pub Checked : Type 0
+Checked = Verdict
 
 -- ---- the recipe's lines
 
@@ -66,7 +60,7 @@ judged_at recipe i = judged (line_at recipe i) i (left_coefficient recipe i) (ri
 
 -- the n lines from line i + 1 on
 unfoldable pub lines_judged : List ℕ → ℕ → ℕ → Verdict
-lines_judged recipe zero i = Kept
+lines_judged recipe zero i = Ok tt
 lines_judged recipe (suc n) i = unless_broken (judged_at recipe i) (lines_judged recipe n (suc i))
 
 -- rules 3 to 7
@@ -88,4 +82,4 @@ recipe_judged d recipe = first_broken (form_judged recipe ∷ refuses (not (eqb 
 -- ---- checking
 
 unfoldable pub checked : ℕ → List ℕ → Checked
-checked c recipe = in_order Refused (refuses (out_of_range c) Constant ∷ recipe_judged (odd_part c) recipe ∷ []) Accepted
+checked c recipe = in_order Err (refuses (out_of_range c) Constant ∷ recipe_judged (odd_part c) recipe ∷ []) (Ok tt)

@@ -4,66 +4,35 @@
 
 ghost use Rattle.std.specs.Prelude.{◌≡◌, ℕ, ◌/◌, ◌<◌, ◌≤◌, ◌^◌, length, get_or};
 ghost use Rattle.line.specs.Limits.{line_bytes, most_lines};
-ghost use Rattle.recipe.specs.Check.{line_at, judged, form_judged, product_at, recipe_judged, checked, checked_told};
+ghost use Rattle.recipe.specs.Check.{line_at, judged, form_judged, product_at, recipe_judged, checked};
 
-use line::{Line, Refusal, Told, Verdict};
-
-#[derive(Clone, Copy)]
-pub enum Checked {
-    Accepted,
-    Refused(Refusal),
-}
-
-impl Checked {
-    // The documents' number, the bad line and the value that it gives; all zero in success.
-    pub fn told(self) -> Told
-        ensures { result ≡ checked_told self }
-    {
-        match self {
-            Checked::Accepted => Told {
-                number: 0,
-                line: 0,
-                value: 0,
-            },
-            Checked::Refused(x) => x.told(),
-        }
-    }
-}
+use line::{Line, Refusal};
 
 // What the rules say of line i + 1, given the coefficients of the operands before it.
-fn judge(line: Line, i: usize, seen: &[u64; Line::MOST_LINES + 1]) -> Verdict
+#[tactic(auto, unfolding(crate::specs::Check::judged))]
+fn judge(line: Line, i: usize, seen: &[u64; Line::MOST_LINES + 1]) -> Result<(), Refusal>
     requires i_lt_most_lines { i < most_lines }
     requires kind_bound { (line.kind < 2 ^ 2) × (line.shift < 2 ^ 5) × (line.coefficient < 2 ^ 20) }
     requires by_index { (j : ℕ) → j ≤ i → get_or seen.now j 0 < 2 ^ 20 }
     ensures { result ≡ judged line i (get_or seen.now line.left 0) (get_or seen.now line.right 0) }
 {
-    let top = line.top;
-    let kind = line.kind;
-    let left = line.left;
-    let right = line.right;
-    let coefficient = line.coefficient;
     let number = i + 1;
-    if top > 0 {
-        return Verdict::Broken(Refusal::Form(number));
+    if line.top > 0 || line.kind == 0 {
+        return Err(Refusal::Form(number));
     }
-    if kind == 0 {
-        return Verdict::Broken(Refusal::Form(number));
+    if line.left > i || line.right > i {
+        return Err(Refusal::Operand(number));
     }
-    if left > i {
-        return Verdict::Broken(Refusal::Operand(number));
+    if line.coefficient % 2 == 0 {
+        return Err(Refusal::Even(number));
     }
-    if right > i {
-        return Verdict::Broken(Refusal::Operand(number));
-    }
-    if coefficient % 2 == 0 {
-        return Verdict::Broken(Refusal::Even(number));
-    }
-    let claimed = coefficient as i64;
-    let given = line.gives(seen[left], seen[right]);
+    // u64 has no From to i64.
+    let claimed = line.coefficient as i64;
+    let given = line.gives(seen[line.left], seen[line.right]);
     if claimed == given {
-        Verdict::Kept
+        Ok(())
     } else {
-        Verdict::Broken(Refusal::Value(number, given))
+        Err(Refusal::Value(number, given))
     }
 }
 
@@ -77,28 +46,28 @@ fn line_at(recipe: &[u8], i: usize) -> Line
 }
 
 // Rules 3 to 7.
-fn judge_lines(recipe: &[u8]) -> Verdict
+fn judge_lines(recipe: &[u8]) -> Result<(), Refusal>
     ensures { result ≡ form_judged recipe.now }
 {
     let length = recipe.len();
     if length % Line::BYTES != 0 {
-        return Verdict::Broken(Refusal::Length);
+        return Err(Refusal::Length);
     }
     if length > Line::BYTES * Line::MOST_LINES {
-        return Verdict::Broken(Refusal::Length);
+        return Err(Refusal::Length);
     }
     let n = length / Line::BYTES;
     let mut seen = [0u64; Line::MOST_LINES + 1];
     seen[0] = 1;
+    // A loop that yields its answer by break, and counts its line for that: document 01's form at this place.
     let mut i: usize = 0;
     let answer = loop {
         if i == n {
-            break Verdict::Kept;
+            break Ok(());
         }
         let line = line_at(recipe, i);
-        match judge(line, i, &seen) {
-            Verdict::Kept => {}
-            Verdict::Broken(x) => break Verdict::Broken(x),
+        if let Err(x) = judge(line, i, &seen) {
+            break Err(x);
         }
         i += 1;
         seen[i] = line.coefficient;
@@ -118,29 +87,25 @@ fn product_at(recipe: &[u8]) -> u64
 }
 
 // Rules 3 to 8, for a recipe whose product is to be d.
-pub fn check_lines(d: u64, recipe: &[u8]) -> Verdict
+#[tactic(auto, unfolding(crate::specs::Check::recipe_judged))]
+pub fn check_lines(d: u64, recipe: &[u8]) -> Result<(), Refusal>
     ensures { result ≡ recipe_judged d recipe.now }
 {
-    match judge_lines(recipe) {
-        Verdict::Kept => {}
-        Verdict::Broken(x) => return Verdict::Broken(x),
-    }
+    judge_lines(recipe)?;
     if product_at(recipe) == d {
-        return Verdict::Kept;
+        Ok(())
+    } else {
+        Err(Refusal::Product)
     }
-    Verdict::Broken(Refusal::Product)
 }
 
 // Whether a recipe is right for c, and what is wrong with it if not.
-pub fn check(c: u64, recipe: &[u8]) -> Checked
+#[tactic(auto, unfolding(crate::specs::Check::checked))]
+pub fn check(c: u64, recipe: &[u8]) -> Result<(), Refusal>
     ensures { result ≡ checked c recipe.now }
 {
     if line::out_of_range(c) {
-        return Checked::Refused(Refusal::Constant);
+        return Err(Refusal::Constant);
     }
-    let d = line::odd_part(c);
-    match check_lines(d, recipe) {
-        Verdict::Kept => Checked::Accepted,
-        Verdict::Broken(x) => Checked::Refused(x),
-    }
+    check_lines(line::odd_part(c), recipe)
 }

@@ -10,7 +10,6 @@ use lib.IntN.{ℤ, pos, negsuc}
 use lib.ListN.{length, length-append}
 use Rattle.wording.specs.Decimal.{value_from, value_of}
 use Rattle.wording.specs.Decimal.{digits_by, decimal, signed_decimal}
-use Rattle.wording.specs.File.{word_text}
 
 by_none : (f : ℕ) → digits_by f 0 ≡ []
 unfolding digits_by
@@ -76,12 +75,6 @@ pub signed_short : (z : ℤ) → mag z < 2 ^ 31 → length (signed_decimal z) �
 unfolding signed_decimal
 signed_short (pos n) h = omega (arith, length_decimal n 9 (omega arith))
 signed_short (negsuc n) h = omega (arith, length_decimal (suc n) 9 (omega arith))
-
-pub word_text_short : (z : ℤ) → mag z < 2 ^ 31 → length (word_text z) ≤ 12
-unfolding word_text
-word_text_short (pos zero) h = omega arith
-word_text_short (pos (suc n)) h = omega (arith, length-append (signed_decimal (pos (suc n))) (32 ∷ []), signed_short (pos (suc n)) h)
-word_text_short (negsuc n) h = omega (arith, length-append (signed_decimal (negsuc n)) (32 ∷ []), signed_short (negsuc n) h)
 
 -- a digit more
 pub value_more : (v d : ℕ) (xs : List ℕ) → value_from v (xs ++ (d ∷ [])) ≡ value_from v xs * 10 + (d - 48)

@@ -1,5 +1,6 @@
 -- The program: it lends a buffer of ten bytes and a room of 262,144, and hands on the bytes that the answer counts. Whatever its input,
 -- these are what document 01 prints; ten bytes are enough, since a longer input is malformed as its first ten are. Assumes nothing.
+use Rattle.std.specs.Prelude.{Some, None}
 use Prim.Native.Nat.{ℕ, ◌≤◌, ◌<◌}
 use mathlib.Core.Path.{◌≡◌, refl, sym, ap, ◌∙◌}
 use mathlib.Core.List.{List, [], ◌∷◌, ◌++◌}
@@ -12,17 +13,15 @@ use Rattle.split.specs.Choose.{split_of}
 use Rattle.wording.specs.Request.{asked, Says}
 use Rattle.wording.specs.Decimal.{decimal}
 use Rattle.wording.specs.Print.{answered, printed_by, printed, Printing, file_room, bytes_counted, Files}
-use Rattle.wording.specs.declared.Request.{Request}
-use Rattle.wording.specs.declared.Request.TheVariants.{Asked, Malformed}
-use Rattle.wording.specs.declared.Printed.{Printed}
-use Rattle.wording.specs.declared.Printed.TheVariants.{Bytes}
+use Rattle.wording.specs.Request.{Request}
+use Rattle.wording.specs.Print.{Printed}
 use Rattle.wording.proofs.Filed.{short_outcome, long_outcome}
 use Rattle.wording.proofs.ReadsBack.{digits_below, asked_back}
 use Rattle.wording.proofs.Says.{asked_when, when_asked}
 
 -- ---- the bytes that are handed on
 
-pub handed_on : (input room : List ℕ) {room' : List ℕ} {a : Printed} {n : ℕ} → Files input room a room' → a ≡ Bytes n
+pub handed_on : (input room : List ℕ) {room' : List ℕ} {a : Printed} {n : ℕ} → Files input room a room' → a ≡ Some n
     → (n ≤ length room') × (take n room' ≡ printed input)
 handed_on input room {room'} {a} {n} f counted =
     elim (dec_le file_room (length room)) [
@@ -42,12 +41,12 @@ handed_on input room {room'} {a} {n} f counted =
 
 -- ---- the buffer
 
-long_malformed : (s : List ℕ) → 9 < length s → asked s ≡ Malformed
+long_malformed : (s : List ℕ) → 9 < length s → asked s ≡ None
 long_malformed s h = by_answer (asked s) refl
   where
-    by_answer : (r : Request) → asked s ≡ r → r ≡ Malformed
-    by_answer Malformed e = refl
-    by_answer (Asked c w) e =
+    by_answer : (r : Request) → asked s ≡ r → r ≡ None
+    by_answer None e = refl
+    by_answer (Some (c, w)) e =
         let k = asked_when s c w e in
         let l = ap length k.text in
         absurd (omega (

@@ -1,4 +1,5 @@
 -- A number is printed as digits, at least one and no zero before others, and what is printed reads back. Assumes nothing.
+use Rattle.std.specs.Prelude.{Some}
 use mathlib.Core.Path.{◌≡◌, refl, ap, sym, ◌∙◌}
 use mathlib.Core.List.{List, [], ◌∷◌, ◌++◌}
 use Prim.Native.Nat.{ℕ, suc, ◌+◌, ◌-◌, ◌*◌, ◌/◌, ◌%◌, ◌^◌, ◌≤◌, ◌<◌}
@@ -7,7 +8,6 @@ use native.Mathlib.Omega.{arith}
 use lib.IntN.{ℤ, pos, negsuc, neg_ℤ}
 use lib.ListN.{length, get_or, length-append, get_or-append}
 use borrow.Author.Tests.{ne_eqb}
-use Rattle.wording.specs.declared.Request.TheVariants.{Asked}
 use Rattle.wording.specs.Request.{asked, Digits}
 use Rattle.wording.specs.Decimal.{decimal, signed_decimal, value_from, value_of, signed_value}
 use Rattle.wording.proofs.Decimal.{decimal_ind, length_decimal, value_decimal}
@@ -39,7 +39,7 @@ pub decimal_plain : (n : ℕ) → Plain n (decimal n)
 decimal_plain = decimal_ind Plain plain_one plain_more
 
 -- a request that is printed is read
-pub asked_back : (c w : ℕ) → c < 100000 → w < 100 → asked (decimal c ++ (32 ∷ (decimal w ++ (10 ∷ [])))) ≡ Asked c w
+pub asked_back : (c w : ℕ) → c < 100000 → w < 100 → asked (decimal c ++ (32 ∷ (decimal w ++ (10 ∷ [])))) ≡ Some (c, w)
 asked_back c w hc hw =
     when_asked (decimal c ++ (32 ∷ (decimal w ++ (10 ∷ [])))) c w (record {
       constant_digits = decimal c;

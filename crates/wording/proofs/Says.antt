@@ -1,4 +1,5 @@
 -- A request is read exactly when it is one to five digits, a space, one or two digits and a newline. Assumes nothing.
+use Rattle.std.specs.Prelude.{Some, None}
 use mathlib.Core.Path.{◌≡◌, refl, ap, ap₂, ◌∙◌, sym}
 use mathlib.Core.List.{List, [], ◌∷◌, ◌++◌}
 use Prim.Native.Nat.{ℕ, suc, ◌+◌, ◌≤◌, ◌<◌}
@@ -8,8 +9,7 @@ use native.Mathlib.Omega.{arith}
 use lib.ListN.{length, get_or, take, drop, length-append, drop_of_length-le}
 use lib.Seq.{split_at, take_at, get_or_at, length-take-le, drop-append-add}
 use borrow.Author.Tests.{lt-ltb, le-ltb}
-use Rattle.wording.specs.declared.Request.{Request}
-use Rattle.wording.specs.declared.Request.TheVariants.{Asked, Malformed}
+use Rattle.wording.specs.Request.{Request}
 use Rattle.wording.specs.Decimal.{value_of}
 use Rattle.wording.specs.Request.{front, width_asked, asked, Digits, Says}
 use Rattle.wording.proofs.Asking.{width_none, width_long, width_more, width_other, width_right, request_none, request_long}
@@ -35,11 +35,19 @@ unfolding front
 front_ends [] rest b d h = simp (lt-ltb b 48 h)
 front_ends (x ∷ ds) rest b d h = simp (le-ltb x 48 d.0, le-ltb 57 x d.1, front_ends ds rest b d.2 h)
 
-clash : (r : Request) (c w : ℕ) → Malformed ≡ r → r ≡ Asked c w → ⊥
+clash : (r : Request) (c w : ℕ) → None ≡ r → r ≡ Some (c, w) → ⊥
 clash r c w p q = let z : ◌≡◌ {A = ℕ} 0 1 = cc in omega arith
 
-same_asked : (r : Request) (a b c w : ℕ) → Asked a b ≡ r → r ≡ Asked c w → (a ≡ c) × (b ≡ w)
-same_asked r a b c w p q = (cc, cc)
+same_asked : (r : Request) (a b c w : ℕ) → Some (a, b) ≡ r → r ≡ Some (c, w) → (a ≡ c) × (b ≡ w)
+same_asked r a b c w p q = (ap constant (p ∙ q), ap width (p ∙ q))
+  where
+    constant : Request → ℕ
+    constant None = a
+    constant (Some s) = s.0
+
+    width : Request → ℕ
+    width None = b
+    width (Some s) = s.1
 
 record Ends (c : ℕ) (t : List ℕ) (c' w : ℕ) : Type 0 where
   es : List ℕ
@@ -50,7 +58,7 @@ record Ends (c : ℕ) (t : List ℕ) (c' w : ℕ) : Type 0 where
   constant : c' ≡ c
   width : w ≡ value_of es
 
-width_when : (c : ℕ) (t : List ℕ) (c' w : ℕ) → width_asked c t ≡ Asked c' w → Ends c t c' w
+width_when : (c : ℕ) (t : List ℕ) (c' w : ℕ) → width_asked c t ≡ Some (c', w) → Ends c t c' w
 width_when c t c' w e =
     elim (ℕ_discrete (front t) 0) [
       | yes p ↦ absurd (clash _ c' w (width_none c t (front t) refl p) e)
@@ -84,7 +92,7 @@ width_when c t c' w e =
     ]
 
 -- what is read has the shape
-pub asked_when : (s : List ℕ) (c w : ℕ) → asked s ≡ Asked c w → Says s c w
+pub asked_when : (s : List ℕ) (c w : ℕ) → asked s ≡ Some (c, w) → Says s c w
 asked_when s c w e =
     elim (ℕ_discrete (front s) 0) [
       | yes p ↦ absurd (clash _ c w (request_none s (front s) refl p) e)
@@ -121,7 +129,7 @@ asked_when s c w e =
     ]
 
 -- and what has the shape is read
-pub when_asked : (s : List ℕ) (c w : ℕ) → Says s c w → asked s ≡ Asked c w
+pub when_asked : (s : List ℕ) (c w : ℕ) → Says s c w → asked s ≡ Some (c, w)
 when_asked s c w h =
     let ds = h.constant_digits in
     let es = h.width_digits in
@@ -136,4 +144,4 @@ when_asked s c w h =
     (get_or_at ds 32 t 0 (length ds) refl))
     ∙ ap₂ (λ (x y : List ℕ). width_asked (value_of x) y) (take_at ds (32 ∷ t) (length ds) refl) d
     ∙ sym (width_right (value_of ds) t (length es) ft (omega (arith, h.some.1)) h.few.1 lt (get_or_at es 10 [] 0 (length es) refl))
-    ∙ ap₂ (λ (x : ℕ) (y : ℕ). Asked x y) (sym h.constant) (ap value_of (take_at es (10 ∷ []) (length es) refl) ∙ sym h.width)
+    ∙ ap₂ (λ (x : ℕ) (y : ℕ). Some (x, y)) (sym h.constant) (ap value_of (take_at es (10 ∷ []) (length es) refl) ∙ sym h.width)

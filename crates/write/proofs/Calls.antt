@@ -1,5 +1,6 @@
 -- The public call behind its tests: what the writer asks where those of the input are kept, and what its outcome is then; and document 01's
 -- call, as the case where x is the variables 1 to w. Assumes nothing.
+use Rattle.std.specs.Prelude.{Ok, Err}
 use Prim.Native.Nat.{ℕ, suc, ◌+◌, ◌-◌, ◌*◌, ◌/◌, ◌^◌, ◌<◌, ◌≤◌}
 use mathlib.Core.Path.{◌≡◌, refl, sym, ap, ap₂, subst, ◌∙◌}
 use mathlib.Core.Bool.{true}
@@ -14,8 +15,7 @@ use Rattle.line.specs.Limits.{most_width, out_of_range, not_a_width}
 use Rattle.line.specs.Number.{bit_length, twos, odd_part}
 use Rattle.line.specs.Order.{refuses, first_broken}
 use Rattle.line.specs.declared.Refusal.TheVariants.{Constant, Width}
-use Rattle.line.specs.declared.Verdict.{Verdict}
-use Rattle.line.specs.declared.Verdict.TheVariants.{Kept, Broken}
+use Rattle.line.specs.Order.{Verdict}
 use Rattle.line.proofs.Number.{lt_or_le, odd_part_le, odd_part_odd, odd_part_whole}
 use Rattle.recipe.specs.Check.{line_at}
 use Rattle.product.specs.Bit.{given, numbered}
@@ -29,7 +29,7 @@ use Rattle.product.proofs.Tests.{InputsRight, kept_inputs, refused_left, product
 use Rattle.write.specs.Rooms.{Writable, CanWrite}
 use Rattle.write.specs.Sizes.{most_columns}
 
-module _ (c w : ℕ) (x : List ℤ) (first : ℕ) (recipe : List ℕ) (kept : first_broken (input_tests c w x first recipe) ≡ Kept) where
+module _ (c w : ℕ) (x : List ℤ) (first : ℕ) (recipe : List ℕ) (kept : first_broken (input_tests c w x first recipe) ≡ Ok tt) where
   i : InputsRight c w x first recipe
   i = kept_inputs c w x first recipe kept
 
@@ -95,10 +95,10 @@ unread c w x x' first first' recipe bits clauses h = go (refuses (out_of_range c
 
     go : (v : Verdict) → refuses (out_of_range c) Constant ≡ v
         → written c w x first recipe bits clauses ≡ written c w x' first' recipe bits clauses
-    go Kept e =
+    go (Ok u) e =
         refused_left c w x first recipe bits clauses Width (rw (e, wide))
         ∙ sym (refused_left c w x' first' recipe bits clauses Width (rw (e, wide)))
-    go (Broken r) e =
+    go (Err r) e =
         refused_left c w x first recipe bits clauses r (rw e) ∙ sym (refused_left c w x' first' recipe bits clauses r (rw e))
 
 -- k is w, or 16 where w is above it

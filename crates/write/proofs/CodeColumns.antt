@@ -337,3 +337,11 @@ module _ (l r c z : ℕ) (i : Inputs) (s : MadeBit) (v : Sees i (bit_of l) (bit_
         next = u.next;
         grows = omega (arith, m.grows, u.grows);
       }
+
+-- ---- what the column's functions are proved by
+
+pub ruleset sum_steps = (plain_is, bit_flipped_by_1, sum_two_is, sum_three_is, sum_opens_two, sum_opens_three)
+
+pub ruleset carry_steps = (plain_is, carry_two_is, carry_three_is, carry_opens_two, carry_opens_three)
+
+pub ruleset column_steps = (last_column_is, column_is)

@@ -139,30 +139,30 @@ holds_more scratch operands codes n e long few h =
 
 -- the whole is what was made, and then the lines from line i + 1 on
 pub record UptoLine (whole : Encoded) (w : ℕ) (recipe : List ℕ) (n next : ℕ) (room₀ : List ℤ) (scratch : List ℕ) (room : List ℤ)
-    (free used count i : ℕ) : Type 0 where
+    (at : Place) (i : ℕ) : Type 0 where
   pub operands : List (List Bit)
   pub made : List Clause
-  pub operands_are : whole.operands ≡ (encoded (columns w) (lines_from recipe i (n - i)) operands free).operands
-  pub clauses_are : whole.clauses ≡ made ++ (encoded (columns w) (lines_from recipe i (n - i)) operands free).clauses
-  pub next_is : whole.next ≡ (encoded (columns w) (lines_from recipe i (n - i)) operands free).next
-  pub used_is : used ≡ length (words made)
-  pub count_is : count ≡ length made
+  pub operands_are : whole.operands ≡ (encoded (columns w) (lines_from recipe i (n - i)) operands at.next).operands
+  pub clauses_are : whole.clauses ≡ made ++ (encoded (columns w) (lines_from recipe i (n - i)) operands at.next).clauses
+  pub next_is : whole.next ≡ (encoded (columns w) (lines_from recipe i (n - i)) operands at.next).next
+  pub used_is : at.words ≡ length (words made)
+  pub count_is : at.clauses ≡ length made
   pub operands_long : length operands ≡ i + 1
   pub holds : Holds scratch operands
   pub long : length scratch ≡ scratch_size
-  pub room_is : used ≤ length room₀ → room ≡ sets room₀ 0 (words made)
+  pub room_is : at.words ≤ length room₀ → room ≡ sets room₀ 0 (words made)
   pub room_same : length room ≡ length room₀
-  pub free_pos : 0 < free
-  pub grows : next ≤ free
-  pub used_small : used ≤ most_line_words * i
-  pub count_small : count ≤ most_line_clauses * i
+  pub free_pos : 0 < at.next
+  pub grows : next ≤ at.next
+  pub used_small : at.words ≤ most_line_words * i
+  pub count_small : at.clauses ≤ most_line_clauses * i
 
 module _ (w : ℕ) (recipe : List ℕ) (x : List Bit) (n next : ℕ) (room₀ : List ℤ) where
   abbrev whole : Encoded
   whole = encoded (columns w) (lines_from recipe 0 n) (x ∷ []) next
 
   begin_over : (scratch : List ℕ) → 0 < next → Holds scratch (x ∷ []) → length scratch ≡ scratch_size
-      → UptoLine whole w recipe n next room₀ scratch room₀ next 0 0 0
+      → UptoLine whole w recipe n next room₀ scratch room₀ (record { next = next; words = 0; clauses = 0 }) 0
   begin_over scratch p h k =
       let e : n ≡ n - 0 = omega arith in
       let E : ℕ → Encoded = λ (m : ℕ). encoded (columns w) (lines_from recipe 0 m) (x ∷ []) next in
@@ -186,16 +186,16 @@ module _ (w : ℕ) (recipe : List ℕ) (x : List Bit) (n next : ℕ) (room₀ : 
       }
 
   -- the line that the scratch room's operands give is that of the operands so far
-  line_read : (scratch : List ℕ) (room : List ℤ) (free used count i : ℕ)
-      → (u : UptoLine whole w recipe n next room₀ scratch room free used count i) → i < n → Writable w recipe n
+  line_read : (scratch : List ℕ) (room : List ℤ) (at : Place) (i : ℕ)
+      → (u : UptoLine whole w recipe n next room₀ scratch room at i) → i < n → Writable w recipe n
       → let L = line_at recipe i in
       line_sum (kind_of L.kind) (columns w L.coefficient) (bits_of (operand_at scratch L.left)) L.shift
-      (bits_of (operand_at scratch L.right)) free
+      (bits_of (operand_at scratch L.right)) at.next
       ≡ line_sum (kind_of L.kind) (columns w L.coefficient) (get_or u.operands L.left []) L.shift
-      (get_or u.operands L.right []) free
-  line_read scratch room free used count i u lt ok =
+      (get_or u.operands L.right []) at.next
+  line_read scratch room at i u lt ok =
       let L = line_at recipe i in
-      line_same (kind_of L.kind) (columns w L.coefficient) L.shift free (bits_of (operand_at scratch L.left))
+      line_same (kind_of L.kind) (columns w L.coefficient) L.shift at.next (bits_of (operand_at scratch L.left))
       (bits_of (operand_at scratch L.right))
       (get_or u.operands L.left []) (get_or u.operands L.right []) (ok.columns i lt)
       (λ j q. bit_at (operand_at scratch L.left) j
@@ -204,56 +204,55 @@ module _ (w : ℕ) (recipe : List ℕ) (x : List Bit) (n next : ℕ) (room₀ : 
       ∙ operand_bits scratch u.operands u.holds L.right (omega (arith, u.operands_long, ok.rights i lt)) j q)
 
   -- a line's next free variable is at most that of the whole
-  pub line_fits : (scratch : List ℕ) (room : List ℤ) (free used count i k : ℕ)
-      → UptoLine whole w recipe n next room₀ scratch room free used count i → i < n → Writable w recipe n
+  pub line_fits : (scratch : List ℕ) (room : List ℤ) (at : Place) (i k : ℕ)
+      → UptoLine whole w recipe n next room₀ scratch room at i → i < n → Writable w recipe n
       → (l : Line) → l ≡ line_at recipe i → (m : ℕ) → m ≡ columns w l.coefficient → whole.next ≤ k
       → (line_sum (kind_of l.kind) m (bits_of (operand_at scratch l.left)) l.shift (bits_of (operand_at scratch l.right))
-      free).next ≤ k
+      at.next).next ≤ k
   unfolding encoded line_encoded lines_from
-  line_fits scratch room free used count i k u lt ok l el m em h =
+  line_fits scratch room at i k u lt ok l el m em h =
       let L = line_at recipe i in
       let Q : Line → ℕ → Type 0 = λ (q : Line) (j : ℕ).
       (line_sum (kind_of q.kind) j (bits_of (operand_at scratch q.left)) q.shift (bits_of (operand_at scratch q.right))
-      free).next ≤ k in
+      at.next).next ≤ k in
       let S : Sum =
       line_sum (kind_of L.kind) (columns w L.coefficient) (get_or u.operands L.left []) L.shift
-      (get_or u.operands L.right []) free in
+      (get_or u.operands L.right []) at.next in
       let one : n - i ≡ suc (n - (i + 1)) = omega arith in
       let a : whole.next ≡ (encoded (columns w) (lines_from recipe (suc i) (n - (i + 1))) (u.operands ++ (S.bits ∷ [])) S.next).next =
-      u.next_is ∙ ap (λ (j : ℕ). (encoded (columns w) (lines_from recipe i j) u.operands free).next) one in
+      u.next_is ∙ ap (λ (j : ℕ). (encoded (columns w) (lines_from recipe i j) u.operands at.next).next) one in
       let b = encoded_grows (columns w) (lines_from recipe (suc i) (n - (i + 1))) (u.operands ++ (S.bits ∷ [])) S.next in
       let c : Q L (columns w L.coefficient) =
-      omega (arith, h, a, b, ap (λ (s : Sum). s.next) (line_read scratch room free used count i u lt ok)) in
+      omega (arith, h, a, b, ap (λ (s : Sum). s.next) (line_read scratch room at i u lt ok)) in
       subst (λ (q : Line). Q q m) (sym el) (subst (λ (j : ℕ). Q L j) (sym (em ∙ ap (λ (q : Line). columns w q.coefficient) el)) c)
 
-  pub lines_go_on : (scratch scratch' : List ℕ) (room room' : List ℤ) (free used count i : ℕ)
-      → UptoLine whole w recipe n next room₀ scratch room free used count i
+  pub lines_go_on : (scratch scratch' : List ℕ) (room room' : List ℤ) (at : Place) (i : ℕ)
+      → UptoLine whole w recipe n next room₀ scratch room at i
       → i < n → Writable w recipe n → (l : Line) → l ≡ line_at recipe i → (m : ℕ) → m ≡ columns w l.coefficient → (r : Place)
       → SumIs (line_sum (kind_of l.kind) m (bits_of (operand_at scratch l.left)) l.shift (bits_of (operand_at scratch l.right))
-      free)
-      (record { next = free; words = used; clauses = count }) m (most_columns * (i + 1)) r scratch scratch' room room'
+      at.next)
+      at m (most_columns * (i + 1)) r scratch scratch' room room'
       → length room' ≡ length room
-      → UptoLine whole w recipe n next room₀ scratch' room' r.next r.words r.clauses (i + 1)
+      → UptoLine whole w recipe n next room₀ scratch' room' r (i + 1)
   unfolding encoded line_encoded lines_from
-  lines_go_on scratch scratch' room room' free used count i u lt ok l el m em r y k =
+  lines_go_on scratch scratch' room room' at i u lt ok l el m em r y k =
       let L = line_at recipe i in
       let M = columns w L.coefficient in
-      let from : Place = record { next = free; words = used; clauses = count } in
       let P : Line → ℕ → Type 0 = λ (q : Line) (j : ℕ).
       SumIs (line_sum (kind_of q.kind) j (bits_of (operand_at scratch q.left)) q.shift (bits_of (operand_at scratch q.right))
-      free) from j (most_columns * (i + 1)) r scratch scratch' room room' in
+      at.next) at j (most_columns * (i + 1)) r scratch scratch' room room' in
       let y₁ : P L M =
       subst (λ (j : ℕ). P L j) (em ∙ ap (λ (q : Line). columns w q.coefficient) el) (subst (λ (q : Line). P q m) el y) in
-      let S : Sum = line_sum (kind_of L.kind) M (get_or u.operands L.left []) L.shift (get_or u.operands L.right []) free in
-      let eS = line_read scratch room free used count i u lt ok in
-      let z : SumIs S from M (most_columns * (i + 1)) r scratch scratch' room room' =
-      subst (λ (q : Sum). SumIs q from M (most_columns * (i + 1)) r scratch scratch' room room') eS y₁ in
+      let S : Sum = line_sum (kind_of L.kind) M (get_or u.operands L.left []) L.shift (get_or u.operands L.right []) at.next in
+      let eS = line_read scratch room at i u lt ok in
+      let z : SumIs S at M (most_columns * (i + 1)) r scratch scratch' room room' =
+      subst (λ (q : Sum). SumIs q at M (most_columns * (i + 1)) r scratch scratch' room room') eS y₁ in
       let ops = u.operands ++ (S.bits ∷ []) in
       let R = encoded (columns w) (lines_from recipe (i + 1) (n - (i + 1))) ops r.next in
       let one : n - i ≡ suc (n - (i + 1)) = omega arith in
       let same : encoded (columns w) (lines_from recipe (suc i) (n - (i + 1))) ops S.next ≡ R =
       ap₂ (λ (j q : ℕ). encoded (columns w) (lines_from recipe j (n - (i + 1))) ops q) (sym (add-one i)) (sym z.next_is) in
-      let E : ℕ → Encoded = λ (j : ℕ). encoded (columns w) (lines_from recipe i j) u.operands free in
+      let E : ℕ → Encoded = λ (j : ℕ). encoded (columns w) (lines_from recipe i j) u.operands at.next in
       let wa = words_append u.made S.clauses in
       let few_codes : length z.codes ≤ most_columns =
       omega (
@@ -261,7 +260,7 @@ module _ (w : ℕ) (recipe : List ℕ) (x : List Bit) (n next : ℕ) (room₀ : 
         ok.columns i lt,
         length-map z.codes bit_of,
         ap (λ (q : List Bit). length q) z.bits_are,
-        length_line (kind_of L.kind) M L.shift (get_or u.operands L.left []) (get_or u.operands L.right []) free,
+        length_line (kind_of L.kind) M L.shift (get_or u.operands L.left []) (get_or u.operands L.right []) at.next,
       ) in
       record {
         operands = ops;
@@ -295,13 +294,13 @@ module _ (w : ℕ) (recipe : List ℕ) (x : List Bit) (n next : ℕ) (room₀ : 
         count_small = omega (arith, z.clauses_few, u.count_small, ok.columns i lt);
       }
 
-  pub lines_end : (scratch : List ℕ) (room : List ℤ) (free used count i : ℕ) → i ≡ n
-      → UptoLine whole w recipe n next room₀ scratch room free used count i
-      → LinesAre whole next (record { next = free; words = used; clauses = count }) scratch room₀ room
+  pub lines_end : (scratch : List ℕ) (room : List ℤ) (at : Place) (i : ℕ) → i ≡ n
+      → UptoLine whole w recipe n next room₀ scratch room at i
+      → LinesAre whole next at scratch room₀ room
   unfolding encoded lines_from
-  lines_end scratch room free used count i e u =
+  lines_end scratch room at i e u =
       let z : n - i ≡ 0 = omega arith in
-      let E : ℕ → Encoded = λ (j : ℕ). encoded (columns w) (lines_from recipe i j) u.operands free in
+      let E : ℕ → Encoded = λ (j : ℕ). encoded (columns w) (lines_from recipe i j) u.operands at.next in
       let cl : whole.clauses ≡ u.made = u.clauses_are ∙ (ap (λ (j : ℕ). u.made ++ (E j).clauses) z ∙ append-nil u.made) in
       record {
         next_is = sym (u.next_is ∙ ap (λ (j : ℕ). (E j).next) z);
@@ -314,7 +313,7 @@ module _ (w : ℕ) (recipe : List ℕ) (x : List Bit) (n next : ℕ) (room₀ : 
 
 pub lines_begin : (w : ℕ) (recipe : List ℕ) (n next : ℕ) (room : List ℤ) (scratch : List ℕ) → w ≤ 16 → 0 < next
     → length scratch ≡ scratch_size → ((j : ℕ) → w ≤ j → get_or scratch j 0 ≡ 0)
-    → UptoLine (encoded (columns w) (lines_from recipe 0 n) (bits_of (take w scratch) ∷ []) next) w recipe n next room scratch room next 0
-    0 0
+    → UptoLine (encoded (columns w) (lines_from recipe 0 n) (bits_of (take w scratch) ∷ []) next) w recipe n next room scratch room
+    (record { next = next; words = 0; clauses = 0 }) 0
 lines_begin w recipe n next room scratch h p k blank =
     begin_over w recipe (bits_of (take w scratch)) n next room scratch p (x_holds scratch w h blank) k

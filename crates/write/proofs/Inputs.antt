@@ -1,12 +1,19 @@
 -- Test 14 as the loops make it, literal by literal. Assumes nothing.
-use Prim.Native.Nat.{ℕ, ◌+◌, ◌≤◌, ◌<◌}
+use Prim.Native.Nat.{ℕ, ◌+◌, ◌≤◌, ◌<◌, ◌^◌}
 use mathlib.Core.Path.{◌≡◌, refl, sym, ap, ◌∙◌}
 use mathlib.Core.Bool.{Bool, true, false, not, ◌||◌}
 use mathlib.Core.List.{List, ◌∷◌}
+use native.Mathlib.Omega.{arith}
 use native.Mathlib.Numerals.{add-one}
-use borrow.Author.Tests.{eq-eqb, ne_eqb, lt-ltb, le-ltb}
+use borrow.Author.Tests.{eq-eqb, ne_eqb}
 use lib.Dec.{eqb, ltb}
-use lib.IntN.{ℤ, pos}
+use lib.IntN.{ℤ, pos, negsuc, nat_abs}
+use lib.Signed.{mag}
+use mir.Syntax.{w32}
+use mir.Val.{to_z, of_z}
+use mir.ValLaws.{to_z-of_z}
+use Rattle.line.specs.Limits.{most_next}
+use Rattle.product.proofs.Given.{fit_at, fit_of}
 use lib.ListN.{length, get_or, drop, drop_of_length-le}
 use lib.Seq.{drop-cons}
 use Rattle.cnf.specs.Words.{named, names}
@@ -31,18 +38,6 @@ module _ (first : ℕ) (x : List ℤ) (j : ℕ) where
   abbrev l : ℕ
   l = named (get_or x j (pos 0))
 
-  pub at_zero : l ≡ 0 → true ≡ unfit_at first x j
-  unfolding unfit_at
-  at_zero e = rw (eq-eqb l 0 e)
-
-  pub at_large : (l ≡ 0 → ⊥) → first ≤ l → true ≡ unfit_at first x j
-  unfolding unfit_at
-  at_large e h = rw (ne_eqb l 0 e, le-ltb l first h)
-
-  pub at_rest : (l ≡ 0 → ⊥) → l < first → names l (drop (j + 1) x) ≡ unfit_at first x j
-  unfolding unfit_at
-  at_rest e h = rw (ne_eqb l 0 e, lt-ltb l first h)
-
   three : (a b c d : Bool) → a || (b || (c || d)) ≡ (a || (b || c)) || d
   three true b c d = refl
   three false true c d = refl
@@ -60,3 +55,23 @@ module _ (first : ℕ) (x : List ℤ) (j : ℕ) where
 
   pub unfit_end : length x ≤ j → unfit first (drop j x) ≡ false
   unfit_end h = ap (unfit first) (drop_of_length-le x h)
+
+-- ---- a literal that fits
+
+mag_named : (z : ℤ) → named z < 2 ^ 31 → mag z < 2 ^ 31
+mag_named (pos n) h = h
+mag_named (negsuc n) h = omega arith
+
+-- its variable's number, as the machine reads it
+pub named_fits : (first : ℕ) (x : List ℤ) (j : ℕ) → unfit first x ≡ false → first ≤ most_next → j < length x
+    → named (to_z w32 (of_z w32 (get_or x j (pos 0)))) < most_next
+named_fits first x j e h q =
+    let z : ℤ = get_or x j (pos 0) in
+    let b : named z < most_next = omega (arith, fit_at first x (fit_of first x e) j q, h) in
+    omega (arith, ap nat_abs (to_z-of_z w32 z (record { sfits = mag_named z b })), b)
+
+-- ---- what the tests' functions are proved by
+
+pub ruleset names_steps = (names_hit, names_miss, names_end)
+
+pub ruleset unfit_steps = (unfit_hit, unfit_miss, unfit_end)

@@ -1,5 +1,6 @@
 -- One pass: x in the scratch room, and from the lines to the product; what two passes make of the rooms. Assumes nothing.
-use Prim.Native.Nat.{ℕ, zero, suc, ◌+◌, ◌-◌, ◌*◌, ◌<◌, ◌≤◌}
+use Rattle.std.specs.Prelude.{Ok, Err}
+use Prim.Native.Nat.{ℕ, zero, suc, ◌+◌, ◌-◌, ◌<◌, ◌≤◌}
 use mathlib.Core.Path.{◌≡◌, refl, sym, ap, ap₂, subst, ◌∙◌}
 use mathlib.Core.Bool.{Bool, true, false, cond}
 use mathlib.Core.List.{List, [], ◌∷◌, ◌++◌, map}
@@ -8,23 +9,21 @@ use native.Mathlib.Nat.{add-zero, add-suc, suc-add}
 use native.Mathlib.Numerals.{add-one}
 use lib.Dec.{ltb}
 use lib.IntN.{ℤ, pos}
-use lib.ListN.{length, get_or, take, drop, length-map, replicate, get_or-replicate, length-replicate, get_or-map, get_or-eq_default}
+use lib.ListN.{length, get_or, take, length-map, replicate, get_or-replicate, length-replicate, get_or-map, get_or-eq_default}
 use lib.Seq.{sets, ext_get_or}
 use native.Mathlib.Decide.{dec_lt}
 use Rattle.line.specs.Limits.{most_next}
 use Rattle.line.specs.Order.{first_broken, answer_by}
 use Rattle.line.specs.declared.Line.{Line}
 use Rattle.line.specs.declared.Refusal.{Refusal}
-use Rattle.line.specs.declared.Verdict.{Verdict}
-use Rattle.line.specs.declared.Verdict.TheVariants.{Kept, Broken}
+use Rattle.line.specs.Order.{Verdict}
 use Rattle.cnf.specs.Clause.{Clause}
 use Rattle.cnf.specs.Words.{word, words}
 use Rattle.product.specs.Bit.{Bit, fixed, given, numbered, stored}
 use Rattle.product.specs.Lines.{shifted, columns, Encoded, encoded}
 use Rattle.product.specs.Product.{last_or, Product, product_made, lines_from, clause_words}
-use Rattle.product.specs.Write.{unfit, product_tests, clauses_of_product, Writing, writing, write_by, product_written}
-use Rattle.product.specs.declared.Written.{Written}
-use Rattle.product.specs.declared.Written.TheVariants.{Clauses, Refused}
+use Rattle.product.specs.Write.{unfit, need_tests, product_tests, clauses_of_product, Writing, writing, write_by, product_written}
+use Rattle.product.specs.Write.{Written}
 use Rattle.product.proofs.Lengths.{length_operands, length_lines}
 use Rattle.product.proofs.Nexts.{Narrow, encoded_few}
 use Rattle.product.proofs.Given.{fit_of, length_given, length_numbered, counts_as_numbered}
@@ -172,23 +171,18 @@ module _ (recipe : List ℕ) (n : ℕ) (x : List ℤ) (first t : ℕ) where
     pub pass_is : (size : ℕ) (r : Place) (scratch : List ℕ) (y y' room room' : List ℤ) → LinesAre CodesMade first r scratch room room'
         → size ≤ t + most_columns
         → (size ≤ length y
-        → y' ≡ sets y 0
-        (listed (y_entry (take (most_columns * n + most_columns - most_columns * n) (drop (most_columns * n) scratch)) t) size))
+        → y' ≡ sets y 0 (listed (y_entry (operand_at scratch n) t) size))
         → PassIs ProductMade first size r y y' room room'
-    unfolding operand_at
     pass_is size r scratch y y' room room' made small f =
         let l : LinesAre LinesMade first r scratch room room' =
         subst (λ (e : Encoded). LinesAre e first r scratch room room') codes_made made in
         let ops = LinesMade.operands in
         let long : length ops ≡ n + 1 =
         omega (arith, length_operands (columns (length x)) (lines_from recipe 0 n) (given x ∷ []) first, length_lines recipe 0 n) in
-        let e36 : most_columns * n + most_columns - most_columns * n ≡ most_columns = omega arith in
         let la : last_or [] ops ≡ get_or ops n [] = last_at [] [] ops n long in
         let ye : size ≡ length (shifted t (last_or [] ops))
-        → listed (y_entry (take (most_columns * n + most_columns - most_columns * n) (drop (most_columns * n) scratch)) t) size
-        ≡ map stored (shifted t (last_or [] ops)) = λ es.
-        ap (λ (k : ℕ). listed (y_entry (take k (drop (most_columns * n) scratch)) t) size) e36
-        ∙ y_means (operand_at scratch n) (last_or [] ops) t size small es
+        → listed (y_entry (operand_at scratch n) t) size ≡ map stored (shifted t (last_or [] ops)) = λ es.
+        y_means (operand_at scratch n) (last_or [] ops) t size small es
         (λ k q. operand_bits scratch ops l.held n (omega (arith, long)) k q ∙ ap (λ (o : List Bit). get_or o k (fixed false)) (sym la)) in
         subst (λ (k : Product). PassIs k first size r y y' room room') (sym product_is)
         (record {
@@ -253,6 +247,13 @@ needs_of recipe n t first x r h e k =
       first_below = omega (arith, next, k.grows);
     }
 
+-- the tests of what was counted are those of the product
+pub needs_tested : (first : ℕ) (x : List ℤ) (p : Product) (r : Place) → Needs first x p r → (size bits clauses next : ℕ)
+    → next ≡ first + r.next - (length x + 1) → (v : Verdict) → v ≡ first_broken (need_tests next size r.words bits clauses)
+    → {u : Verdict} → v ≡ u → first_broken (product_tests p size bits clauses) ≡ u
+needs_tested first x p r n size bits clauses next e v t k =
+    sym (t ∙ ap₂ (λ (i j : ℕ). first_broken (need_tests i size j bits clauses)) (e ∙ n.next) n.words) ∙ k
+
 -- ---- the answer and the rooms, behind tests 15, 9 and 10
 
 module _ (p : Product) (size : ℕ) (bits clauses : List ℤ) where
@@ -260,21 +261,21 @@ module _ (p : Product) (size : ℕ) (bits clauses : List ℤ) where
   tests = product_tests p size (length bits) (length clauses)
 
   abbrev left_by : Verdict → Writing
-  left_by v = write_by (answer_by Refused (clauses_of_product p size) v) p bits clauses
+  left_by v = write_by (answer_by Err (clauses_of_product p size) v) p bits clauses
 
   -- a test refuses
-  pub need_refused : (r : Refusal) → first_broken tests ≡ Broken r → writing (Refused r) bits clauses ≡ product_written p size bits clauses
+  pub need_refused : (r : Refusal) → first_broken tests ≡ Err r → writing (Err r) bits clauses ≡ product_written p size bits clauses
   need_refused r e = sym (ap left_by e)
 
   -- none does
-  pub both_fit : first_broken tests ≡ Kept → (first : ℕ) (r : Place) (bits' clauses' : List ℤ) → size ≡ length p.y
+  pub both_fit : first_broken tests ≡ Ok tt → (first : ℕ) (r : Place) (bits' clauses' : List ℤ) → size ≡ length p.y
       → PassIs p first size r bits bits' clauses clauses'
-      → writing (Clauses (record { words = r.words; clauses = r.clauses; next = r.next; bits = size })) bits' clauses'
+      → writing (Ok (record { words = r.words; clauses = r.clauses; next = r.next; bits = size })) bits' clauses'
       ≡ product_written p size bits clauses
   both_fit e first r bits' clauses' es d =
       let f = kept_fits p size (length bits) (length clauses) e in
       let k = d.counts in
-      let counts : ◌≡◌ {A = Written} (Clauses (record { words = r.words; clauses = r.clauses; next = r.next; bits = size }))
+      let counts : ◌≡◌ {A = Written} (Ok (record { words = r.words; clauses = r.clauses; next = r.next; bits = size }))
       (clauses_of_product p size) =
       rw (k.words_are, k.clauses_are, k.next_is) refl in
       let rooms =

@@ -95,15 +95,6 @@ pub record LinesAre (e : Encoded) (next : ℕ) (r : Place) (scratch : List ℕ) 
 
 -- ---- a pass over a recipe; x is given literals, and size the number of y's bits
 
-pub record CanPass (recipe : List ℕ) (n : ℕ) (x : List ℤ) (first t size : ℕ) : Type 0 where
-  pub lines : Writable (length x) recipe n
-  pub width : length x ≤ most_width
-  pub fit : unfit first x ≡ false
-  pub first_pos : 0 < first
-  pub first_fits : first ≤ most_next
-  pub next_fits : (product_made t (lines_from recipe 0 n) (given x) first).next ≤ most_next
-  pub few_bits : size ≤ t + most_columns
-
 -- what a product over variables from first on needs
 pub record CountsAre (p : Product) (first : ℕ) (r : Place) : Type 0 where
   pub next_is : r.next ≡ p.next

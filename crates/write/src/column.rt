@@ -12,7 +12,7 @@ use gates::{Gate, flipped};
 
 // An equal pair's literal and the input that remains; the input that remains beside an opposite pair; the fixed input and the other two in
 // their order; three unfixed inputs.
-#[derive(Clone, Copy)]
+#[derive(Clone, Copy, Debug, PartialEq, Eq)]
 pub enum Inputs {
     Equal(u32, u32),
     Opposite(u32),
@@ -21,6 +21,7 @@ pub enum Inputs {
 }
 
 // a and b are codes of one variable.
+#[tactic(auto, unfolding(crate::specs::Column::pair_of_codes))]
 fn pair(a: u32, b: u32, rest: u32) -> Inputs
     ensures { result ≡ pair_of_codes a b rest }
 {
@@ -60,14 +61,14 @@ fn inputs_of(left: u32, right: u32, carry: u32) -> Inputs
 // ---- a column
 
 // A bit, its gate, and the next free variable.
-#[derive(Clone, Copy)]
+#[derive(Clone, Copy, Debug, PartialEq, Eq)]
 pub struct MadeBit {
     pub bit: u32,
     pub gate: Gate,
     pub next: u32,
 }
 
-#[derive(Clone, Copy)]
+#[derive(Clone, Copy, Debug, PartialEq, Eq)]
 pub struct MadeColumn {
     pub sum: u32,
     pub carry: u32,
@@ -77,6 +78,7 @@ pub struct MadeColumn {
 }
 
 // z is the next free variable.
+#[tactic(auto, using(crate::proofs::CodeColumns::sum_steps))]
 fn sum_bit(i: Inputs, z: u32) -> MadeBit
     requires { (0 < z) × ((inputs_sum i z).next ≤ most_next) }
     ensures { MatchesBit z result (inputs_sum i z) }
@@ -106,6 +108,7 @@ fn sum_bit(i: Inputs, z: u32) -> MadeBit
 }
 
 // t is the next free variable. One of p and q is both of their negations, negated.
+#[tactic(auto, using(crate::proofs::CodeColumns::carry_steps))]
 fn carry_bit(i: Inputs, t: u32) -> MadeBit
     requires { FixedFew i × (0 < t) × ((inputs_carry i t).next ≤ most_next) }
     ensures { MatchesBit t result (inputs_carry i t) }
@@ -135,29 +138,27 @@ fn carry_bit(i: Inputs, t: u32) -> MadeBit
 }
 
 // The sum before the carry, and no carry in the last column.
+#[tactic(auto, using(crate::proofs::CodeColumns::column_steps))]
 pub(crate) fn column(left: u32, right: u32, carry: u32, last: bool, next: u32) -> MadeColumn
     requires { (0 < next) × ((column (bit_of left) (bit_of right) (bit_of carry) last next).next ≤ most_next) }
     ensures { MatchesColumn next result (column (bit_of left) (bit_of right) (bit_of carry) last next) }
 {
     let i = inputs_of(left, right, carry);
     let s = sum_bit(i, next);
-    let parity = s.gate;
-    if last {
-        return MadeColumn {
-            sum: s.bit,
-            carry: 0,
+    let t = if last {
+        MadeBit {
+            bit: 0,
+            gate: Gate::Empty,
             next: s.next,
-            parity,
-            majority: Gate::Empty,
-        };
-    }
-    let t = carry_bit(i, s.next);
-    let majority = t.gate;
+        }
+    } else {
+        carry_bit(i, s.next)
+    };
     MadeColumn {
         sum: s.bit,
         carry: t.bit,
         next: t.next,
-        parity,
-        majority,
+        parity: s.gate,
+        majority: t.gate,
     }
 }

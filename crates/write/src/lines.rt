@@ -12,28 +12,35 @@ ghost use Rattle.write.specs.Terms.{listed, term_code, shift_of_left, shift_of_r
 ghost use Rattle.write.specs.Rooms.{CanSum, SumIs, TermsAre, CanLine, CanLines, LinesAre};
 
 use crate::column::column;
-use gates::{flipped, write_column};
+use gates::{Taken, flipped, write_column};
 use line::Line;
 
 // ---- a sum of two terms
 
 // Where writing stands: the next free variable, and the words and clauses so far.
-#[derive(Clone, Copy)]
+#[derive(Clone, Copy, Debug, PartialEq, Eq)]
 pub struct Place {
     pub next: u32,
     pub words: usize,
     pub clauses: usize,
 }
 
-// The lesser of two. Where the rest of a room of b words starts after a of them, also where a are too many.
-pub(crate) fn least(a: usize, b: usize) -> usize
-    ensures { (result ≤ b) × (a ≤ b → result ≡ a) }
-{
-    if a <= b { a } else { b }
+impl Place {
+    // Behind a column that took so much, with the next free variable that it left.
+    fn after(self, took: Taken, next: u32) -> Place
+        requires { (self.words + took.words < 2 ^ 64) × (self.clauses + took.clauses < 2 ^ 64) }
+        ensures { result ≡ record { next = next; words = self.words + took.words; clauses = self.clauses + took.clauses } }
+    {
+        Place {
+            next,
+            words: self.words + took.words,
+            clauses: self.clauses + took.clauses,
+        }
+    }
 }
 
-// The sum of two terms of m columns, from a place on: its bits go to the front of sums. Each column is lent the rest of the room;
-// words that no longer fit are counted all the same.
+// The sum of two terms of m columns, from a place on: its bits go to the front of sums. Each column is lent the rest of the room, which
+// starts at its end where no more words fit; these are counted all the same. m stands beside the terms, since the clauses speak of it.
 fn write_sum(
     left: &[u32],
     right: &[u32],
@@ -48,28 +55,16 @@ fn write_sum(
         sums.old sums.new room.old room.new }
 {
     let mut carry = first;
-    let mut free = from.next;
-    let mut used = from.words;
-    let mut made = from.clauses;
-    let mut j = 0;
-    while j < m {
-        let c = column(left[j], right[j], carry, j + 1 == m, free);
+    let mut place = from;
+    for j in 0..m {
+        let c = column(left[j], right[j], carry, j + 1 == m, place.next);
         sums[j] = c.sum;
-        let start = least(used, room.len());
-        let parity = c.parity;
-        let majority = c.majority;
-        let took = write_column(parity, majority, &mut room[start..]);
-        used = used + took.words;
-        made = made + took.clauses;
+        let start = place.words.min(room.len());
+        let took = write_column(c.parity, c.majority, &mut room[start..]);
+        place = place.after(took, c.next);
         carry = c.carry;
-        free = c.next;
-        j = j + 1;
     }
-    Place {
-        next: free,
-        words: used,
-        clauses: made,
-    }
+    place
 }
 
 // ---- a line
@@ -77,6 +72,7 @@ fn write_sum(
 // A line has at most 36 columns: 20 bits of its coefficient and 16 of x.
 pub(crate) const MOST_COLUMNS: usize = 36;
 
+#[tactic(auto, unfolding(crate::specs::Terms::term_code))]
 fn term_bit(bits: &[u32], s: usize, f: u32, j: usize) -> u32
     requires { j < length bits.now }
     ensures { result ≡ term_code bits.now s f j }
@@ -88,39 +84,52 @@ fn term_bit(bits: &[u32], s: usize, f: u32, j: usize) -> u32
     }
 }
 
+// The columns of operand i of a scratch room.
+#[tactic(auto, using(crate::proofs::Tables::operand_part))]
+pub(crate) fn operand(scratch: &[u32], i: usize) -> &[u32]
+    requires { most_columns * i + most_columns ≤ length scratch.now }
+    ensures { result.now ≡ operand_at scratch.now i }
+{
+    let a = MOST_COLUMNS * i;
+    &scratch[a..a + MOST_COLUMNS]
+}
+
 // The first m columns of operand i of a scratch room, shifted by s, negated if f is odd.
+#[tactic(auto, using(crate::proofs::Tables::table_steps))]
 fn term(scratch: &[u32], i: usize, s: usize, f: u32, m: usize, out: &mut [u32])
     requires { (most_columns * i + most_columns ≤ length scratch.now) × (m ≤ most_columns) × (m ≤ length out.old) }
     ensures { out.new ≡ sets out.old 0 (listed (term_code (operand_at scratch.now i) s f) m) }
 {
-    let a = MOST_COLUMNS * i;
-    let bits = &scratch[a..a + MOST_COLUMNS];
-    let mut j = 0;
-    while j < m {
+    let bits = operand(scratch, i);
+    for j in 0..m {
         out[j] = term_bit(bits, s, f, j);
-        j = j + 1;
     }
 }
 
+// The kinds are constants of `Line`: document 01's form by place.
+#[tactic(auto, unfolding(crate::specs::Terms::shift_of_left, line::specs::Line::kind_of))]
 fn shift_of_left(kind: u64, s: usize) -> usize
     ensures { result ≡ shift_of_left (kind_of kind) s }
 {
-    if kind == Line::SPLUS {
-        return s;
+    match kind {
+        Line::SPLUS | Line::SMINUS => s,
+        _ => 0,
     }
-    if kind == Line::SMINUS { s } else { 0 }
 }
 
+#[tactic(auto, unfolding(crate::specs::Terms::shift_of_right, line::specs::Line::kind_of))]
 fn shift_of_right(kind: u64, s: usize) -> usize
     ensures { result ≡ shift_of_right (kind_of kind) s }
 {
-    if kind == Line::SPLUS {
-        return 0;
+    match kind {
+        Line::SPLUS | Line::SMINUS => 0,
+        _ => s,
     }
-    if kind == Line::SMINUS { 0 } else { s }
 }
 
-// 1 where the right term is taken off: its columns are negated, and the first carry is 1.
+// 1 where the right term is taken off: its columns are negated, and the first carry is 1. A number, since `gates::flipped` takes one, which
+// may be a fixed bit's code too; the kinds are constants of `Line`, as above.
+#[tactic(auto, unfolding(crate::specs::Terms::taken_off, line::specs::Line::kind_of))]
 fn taken_off(kind: u64) -> u32
     ensures { result ≡ taken_off (kind_of kind) }
 {
@@ -134,6 +143,7 @@ fn terms(l: Line, m: usize, scratch: &[u32], left: &mut [u32], right: &mut [u32]
     requires m_le_most_columns { (m ≤ most_columns) × (m ≤ length left.old) × (m ≤ length right.old) }
     ensures { TermsAre l m scratch.now left.old left.new right.old right.new }
 {
+    // usize has no From of u64.
     let s = l.shift as usize;
     term(scratch, l.left, shift_of_left(l.kind, s), 0, m, left);
     term(
@@ -146,7 +156,8 @@ fn terms(l: Line, m: usize, scratch: &[u32], left: &mut [u32], right: &mut [u32]
     );
 }
 
-// A line of m columns: its operands' bits are read at their places in the scratch room, and its own are stored at its place.
+// A line of m columns: its operands' bits are read at their places in the scratch room, and its own are stored at its place, which is a
+// line's number and no part that is lent: the operands stand in the same room.
 fn write_line(
     l: Line,
     m: usize,
@@ -186,6 +197,7 @@ pub(crate) fn largest(w: usize) -> u64
     (1u64 << w) - 1
 }
 
+#[tactic(auto, using(crate::proofs::CodeLines::small_product), unfolding(product::specs::Lines::columns))]
 fn columns_of(w: usize, k: u64) -> usize
     requires { (w ≤ most_width) × (k ≤ most_coefficient) }
     ensures { (result ≡ columns w k) × (result ≤ 64) }
@@ -193,7 +205,8 @@ fn columns_of(w: usize, k: u64) -> usize
     line::bit_length(k * largest(w))
 }
 
-// The n lines of a recipe, in order. x is the first w bits of the scratch room, and next the first free variable.
+// The n lines of a recipe, in order. x is the first w bits of the scratch room, and next the first free variable. Each line is read from
+// its own place, as a part of what was lent: a form of document 01 by place, so no iterator over chunks.
 pub(crate) fn write_lines(
     recipe: &[u8],
     n: usize,
@@ -207,29 +220,16 @@ pub(crate) fn write_lines(
         (encoded (columns w) (lines_from recipe.now 0 n) (bits_of (take w scratch.old) ∷ []) next) next result
         scratch.new room.old room.new }
 {
-    let mut free = next;
-    let mut used = 0;
-    let mut made = 0;
-    let mut i = 0;
-    while i < n {
+    let mut place = Place {
+        next,
+        words: 0,
+        clauses: 0,
+    };
+    for i in 0..n {
         let a = i * Line::BYTES;
-        let e = a + Line::BYTES;
-        let l = Line::read(&recipe[a..e]);
+        let l = Line::read(&recipe[a..a + Line::BYTES]);
         let m = columns_of(w, l.coefficient);
-        let from = Place {
-            next: free,
-            words: used,
-            clauses: made,
-        };
-        let r = write_line(l, m, i + 1, from, scratch, room);
-        free = r.next;
-        used = r.words;
-        made = r.clauses;
-        i = i + 1;
+        place = write_line(l, m, i + 1, place, scratch, room);
     }
-    Place {
-        next: free,
-        words: used,
-        clauses: made,
-    }
+    place
 }

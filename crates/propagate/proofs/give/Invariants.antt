@@ -1,11 +1,8 @@
 -- `propagate::give`: what is left is the whole (proofs/Giving.antt). Assumes nothing.
-use Prim.Native.Nat.{◌-◌}
-use lib.ListN.{length}
-use Rattle.propagate.proofs.Giving.{Giving}
+use mathlib.Core.Path.{◌≡◌}
+use lib.ListN.{drop}
+use Rattle.propagate.specs.Pass.{given_rest}
 use Rattle.propagate.proofs.give.Given as goal
 
-abbrev pub invariant-loop-i : goal.invariant-loop-i
-invariant-loop-i l = Giving l.given l.initial.values l.values l.i
-
-abbrev pub decreases-loop-i : goal.decreases-loop-i
-decreases-loop-i l = length l.given - l.i
+abbrev pub invariant-loop-w : goal.invariant-loop-w
+invariant-loop-w l = given_rest l.given l.initial.values ≡ given_rest (drop l.w-index l.given) l.values

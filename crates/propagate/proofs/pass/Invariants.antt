@@ -4,8 +4,8 @@ use Prim.Native.Nat.{◌-◌}
 use Rattle.propagate.proofs.Passing.{Passing}
 use Rattle.propagate.proofs.pass.Given as goal
 
-abbrev pub invariant-loop-at : goal.invariant-loop-at
-invariant-loop-at l = Passing l.words l.allowance l.initial.values l.values l.at l.spent
+abbrev pub invariant-loop-rest : goal.invariant-loop-rest
+invariant-loop-rest l = Passing l.words l.allowance l.initial.values l.values l.rest l.spent
 
-abbrev pub decreases-loop-at : goal.decreases-loop-at
-decreases-loop-at l = l.allowance - l.spent
+abbrev pub decreases-loop-rest : goal.decreases-loop-rest
+decreases-loop-rest l = l.allowance - l.spent

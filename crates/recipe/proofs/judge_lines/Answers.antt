@@ -38,7 +38,7 @@ loop-i-preserved c =
     let l = c.loop-i in
     walking_on (c.args.recipe.now) _ l.seen l.i _ l.invariant (omega arith) (omega arith) (sym ((let l = c.loop-i in
     judged_seen (c.args.recipe.now) l.seen _ l.i c.judge.result c.judge.ensures c.line_at-line.ensures l.invariant.operands))
-    ∙ c.in-Kept.is)
+    ∙ c.in_default.is)
     (ap (λ (x : Line). x.coefficient) c.line_at-line.ensures)
 
 pub returns-then-i-n : goal.returns-then-i-n
@@ -46,9 +46,9 @@ returns-then-i-n c =
     let l = c.loop-i in
     sym (l.invariant.rest ∙ walk_end _ _ l.i (omega (arith, c.if-i-n.true)))
 
-pub returns-in-Broken : goal.returns-in-Broken
-returns-in-Broken c =
+pub returns-in-Err : goal.returns-in-Err
+returns-in-Err c =
     let l = c.loop-i in
-    sym (l.invariant.rest ∙ walk_broken _ _ l.i c.in-Broken.x (omega arith) (sym ((let l = c.loop-i in
+    sym (l.invariant.rest ∙ walk_broken _ _ l.i c.in-Err.x (omega arith) (sym ((let l = c.loop-i in
     judged_seen (c.args.recipe.now) l.seen _ l.i c.judge.result c.judge.ensures c.line_at-line.ensures l.invariant.operands))
-    ∙ c.in-Broken.is))
+    ∙ c.in-Err.is))

@@ -1,14 +1,8 @@
 -- `write::store_y`: the entries one by one.
-use Prim.Native.Nat.{◌≤◌, ◌-◌}
 use mathlib.Core.Path.{◌≡◌}
-use lib.ListN.{length}
 use lib.Seq.{sets}
 use Rattle.write.specs.Terms.{listed, y_entry}
 use Rattle.write.proofs.store_y.Given as goal
 
 abbrev pub invariant-loop-j : goal.invariant-loop-j
-invariant-loop-j l = (l.j ≤ l.size) × (length l.out ≡ length l.initial.out)
-    × (l.out ≡ sets l.initial.out 0 (listed (y_entry l.bits l.t) l.j))
-
-abbrev pub decreases-loop-j : goal.decreases-loop-j
-decreases-loop-j l = l.size - l.j
+invariant-loop-j l = l.out ≡ sets l.initial.out 0 (listed (y_entry l.bits l.t) l.j)

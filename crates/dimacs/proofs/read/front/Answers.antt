@@ -1,25 +1,18 @@
--- `dimacs::read::front`: i digits in front, and those in front of the rest. Assumes nothing.
-use native.Mathlib.Omega.{arith}
-use Rattle.wording.proofs.Asking.{front_end, front_low, front_high, front_more}
+-- `dimacs::read::front`: the chain counts the digits in front. Assumes nothing.
+use Rattle.std.proofs.Common.{rules, tests, ◌∙◌, sym, arith}
+use Rattle.std.specs.Char.{is_ascii_digit}
+use Rattle.std.proofs.lemmas.Iterator.{YieldsList-from_slice}
+use Rattle.std.proofs.lemmas.Iterator.Consumers.{count_from_yields_List}
+use Rattle.std.proofs.lemmas.Iterator.Search.{YieldsList-from_take_while}
+use Rattle.std.proofs.lemmas.List.Folds.{length-prefix_len}
+use Rattle.std.proofs.lemmas.List.Sums.{prefix_len-le-length}
+use Rattle.wording.proofs.Asking.{front_digits}
 use Rattle.dimacs.proofs.read.front.Goals as goal
 
-pub loop-i-init : goal.loop-i-init
-loop-i-init c = (omega arith, omega arith)
-
-pub returns-then-b-lt48 : goal.returns-then-b-lt48
-returns-then-b-lt48 c = let l = c.loop-i in
-    let s = c.args.s.now in
-    omega (arith, front_low s l.i (omega arith) c.if-b-lt48.true)
-
-pub returns-then-b-gt57 : goal.returns-then-b-gt57
-returns-then-b-gt57 c = let l = c.loop-i in
-    let s = c.args.s.now in
-    omega (arith, front_high s l.i (omega arith) c.if-b-gt57.true)
-
-pub loop-i-preserved : goal.loop-i-preserved
-loop-i-preserved c = let l = c.loop-i in
-    let s = c.args.s.now in
-    omega (arith, front_more s l.i (omega arith) c.if-b-lt48.false c.if-b-gt57.false)
-
 pub returns : goal.returns
-returns c = omega (arith, front_end c.args.s.now c.loop-i.i (omega arith))
+returns c = let s = c.args.s.now in
+    let e = count_from_yields_List c.take_while.result _ c.count.ensures.ran
+    (YieldsList-from_take_while _ is_ascii_digit (YieldsList-from_slice s (cc)) c.take_while.ensures.closure c.take_while.ensures.done
+    (λ x b q k. search (rules, tests)))
+    ∙ length-prefix_len is_ascii_digit s in
+    (e ∙ sym (front_digits s), omega (arith, e, prefix_len-le-length is_ascii_digit s))

@@ -1,5 +1,5 @@
 -- `write::lines::write_lines`: the lines one by one (proofs/CodeLines.antt). Assumes nothing.
-use mathlib.Core.Path.{ap, sym, ◌∙◌}
+use mathlib.Core.Path.{ap, ◌∙◌}
 use native.Mathlib.Omega.{arith}
 use lib.ListN.{take}
 use Rattle.line.specs.Limits.{most_next}
@@ -12,22 +12,18 @@ use Rattle.write.proofs.lines.write_lines.Goals as goal
 
 pub loop-i-init : goal.loop-i-init
 loop-i-init c =
-    let a = c.args in (
-      lines_begin a.w a.recipe.now a.n a.next a.room.now a.scratch.now c.requires.width c.requires.next_pos c.requires.long
-          c.requires.blank,
-      omega arith,
-    )
+    let a = c.args in
+    lines_begin a.w a.recipe.now a.n a.next a.room.now a.scratch.now c.requires.width c.requires.next_pos c.requires.long c.requires.blank
 
 pub columns_of-m-requires : goal.columns_of-m-requires
 columns_of-m-requires c = (c.requires.width, omega (arith, ap (λ (x : Line). x.coefficient) c.read-l.ensures))
 
-pub write_line-r-requires : goal.write_line-r-requires
-write_line-r-requires c =
-    let s = c in
+pub write_line-place-requires : goal.write_line-place-requires
+write_line-place-requires c =
     let l = c.loop-i in
-    let a = s.args in
-    let p = s.requires in
-    let u = l.invariant.0 in
+    let a = c.args in
+    let p = c.requires in
+    let u = l.invariant in
     let h = c.loop-i-test.true in
     let e = (c.read-l.ensures ∙ part_line c.args.recipe.now c.loop-i.i) in
     record {
@@ -38,35 +34,24 @@ write_line-r-requires c =
       bits = omega (arith, u.long, p.lines.few, h);
       next_pos = u.free_pos;
       next_fits =
-          line_fits a.w a.recipe.now (bits_of (take a.w a.scratch.now)) a.n a.next a.room.now
-          l.scratch l.room l.free l.used l.made l.i most_next u h p.lines c.read-l.result e
-          c.columns_of-m.result c.columns_of-m.ensures.0 p.next_fits;
+          line_fits a.w a.recipe.now (bits_of (take a.w a.scratch.now)) a.n a.next a.room.now l.scratch l.room l.place l.i most_next u h
+          p.lines c.read-l.result e c.columns_of-m.result c.columns_of-m.ensures.0 p.next_fits;
       words_small = omega (arith, u.used_small, p.lines.few, h);
       clauses_small = omega (arith, u.count_small, p.lines.few, h);
     }
 
 pub loop-i-preserved : goal.loop-i-preserved
 loop-i-preserved c =
-    let s = c in
     let l = c.loop-i in
-    let a = s.args in (
-      lines_go_on a.w a.recipe.now (bits_of (take a.w a.scratch.now)) a.n a.next a.room.now
-          l.scratch _ l.room _ l.free l.used l.made l.i l.invariant.0 c.loop-i-test.true s.requires.lines
-          c.read-l.result ((c.read-l.ensures ∙ part_line c.args.recipe.now c.loop-i.i))
-          c.columns_of-m.result c.columns_of-m.ensures.0 c.write_line-r.result c.write_line-r.ensures
-          c.write_line-r.auto.room,
-      omega arith,
-    )
-
-pub shape_of-scratch : goal.shape_of-scratch
-shape_of-scratch c = c.loop-i.invariant.0.long ∙ sym c.requires.long
-
-pub shape_of-room : goal.shape_of-room
-shape_of-room c = c.loop-i.invariant.0.room_same
+    let a = c.args in
+    let r = c.write_line-place in
+    lines_go_on a.w a.recipe.now (bits_of (take a.w a.scratch.now)) a.n a.next a.room.now l.scratch _ l.room _ l.place l.i l.invariant
+    c.loop-i-test.true c.requires.lines c.read-l.result (c.read-l.ensures ∙ part_line a.recipe.now l.i) c.columns_of-m.result
+    c.columns_of-m.ensures.0 r.result r.ensures r.auto.room
 
 pub returns : goal.returns
 returns c =
     let l = c.loop-i in
     let a = c.args in
-    lines_end a.w a.recipe.now (bits_of (take a.w a.scratch.now)) a.n a.next a.room.now
-    l.scratch l.room l.free l.used l.made l.i (omega arith) l.invariant.0
+    lines_end a.w a.recipe.now (bits_of (take a.w a.scratch.now)) a.n a.next a.room.now l.scratch l.room l.place l.i (omega arith)
+    l.invariant

@@ -1,5 +1,4 @@
 -- `write::lines::write_lines`: the lines one by one (proofs/CodeLines.antt). Assumes nothing.
-use Prim.Native.Nat.{◌≤◌, ◌-◌}
 use mathlib.Core.List.{[], ◌∷◌}
 use lib.ListN.{take}
 use Rattle.product.specs.Lines.{columns, encoded}
@@ -10,9 +9,4 @@ use Rattle.write.proofs.lines.write_lines.Given as goal
 
 abbrev pub invariant-loop-i : goal.invariant-loop-i
 invariant-loop-i l = UptoLine (encoded (columns l.w) (lines_from l.recipe 0 l.n) (bits_of (take l.w l.initial.scratch) ∷ []) l.next) l.w
-    l.recipe l.n l.next l.initial.room l.scratch l.room l.free
-    l.used l.made l.i
-    × (l.i ≤ l.n)
-
-abbrev pub decreases-loop-i : goal.decreases-loop-i
-decreases-loop-i l = l.n - l.i
+    l.recipe l.n l.next l.initial.room l.scratch l.room l.place l.i

@@ -1,5 +1,0 @@
--- `dimacs::number::put_decimal`: the number falls.
-use Rattle.dimacs.proofs.number.+put_decimal.Given as goal
-
-abbrev pub decreases-put_decimal : goal.decreases-put_decimal
-decreases-put_decimal l = l.n
