@@ -38,6 +38,7 @@ struct Product {
     w: u32,
 }
 
+// Each of these asks that a file's room is left, and no invariant of `Out` says so: what is left falls with each byte that is put.
 impl Product {
     fn put(self, out: &mut Out)
         requires { Has out.old file_room }

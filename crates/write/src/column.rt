@@ -137,7 +137,7 @@ fn carry_bit(i: Inputs, t: u32) -> MadeBit
     }
 }
 
-// The sum before the carry, and no carry in the last column.
+// The sum before the carry, and no carry in the last column: one test, and no step handed in, which would be longer.
 #[tactic(auto, using(crate::proofs::CodeColumns::column_steps))]
 pub(crate) fn column(left: u32, right: u32, carry: u32, last: bool, next: u32) -> MadeColumn
     requires { (0 < next) × ((column (bit_of left) (bit_of right) (bit_of carry) last next).next ≤ most_next) }

@@ -210,7 +210,8 @@ fn names(v: u64, x: &[i32]) -> bool
     false
 }
 
-// Whether literal i is 0, or its variable isn't below first, or a later literal names it.
+// Whether literal i is 0, or its variable isn't below first, or a later literal names it. x and first stay two here: no fact joins them but
+// this, and the public calls have them apart.
 #[tactic(auto, unfolding(crate::specs::Terms::unfit_at))]
 fn unfit_at(first: u32, x: &[i32], i: usize) -> bool
     requires { i < length x.now }

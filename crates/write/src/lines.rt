@@ -189,7 +189,7 @@ fn write_line(
 
 // ---- a recipe
 
-// The largest x of w bits.
+// The largest x of w bits. A width is a number here, and no type with its limit, which would be as long in the three functions that ask it.
 pub(crate) fn largest(w: usize) -> u64
     requires { w ≤ most_width }
     ensures { (result ≡ 2 ^ w - 1) × (result < 65536) }
