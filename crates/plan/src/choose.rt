@@ -35,8 +35,8 @@ fn hopeless(counts: &[u8], l: usize, r: usize, fewest: usize) -> bool
     false
 }
 
-// A number, and the table of the splits, and that of the counts, of the numbers before it. Two tables and no table of pairs: the splits are the
-// caller's room, in document 01's form.
+// A number, and the table of the splits, and that of the counts, of the numbers before it. Two tables and no table of pairs: the splits are
+// the caller's room, in document 01's form.
 #[derive(Clone, Copy)]
 pub(crate) struct Number<'a> {
     pub(crate) work: &'a [u8],
@@ -57,8 +57,8 @@ impl Number<'_> {
     }
 
     // The better of the number's split of the kind k at p and the best so far. A split that cannot win is not counted.
-    // No Option<Best> for none: tried and proved, it is no plainer, since its clauses need a relation between it and the definition's Best; and
-    // planning took 1.12 of the time at L = 16.
+    // No Option<Best> for none: tried and proved, it is no plainer, since its clauses need a relation between it and the definition's Best;
+    // and planning took 1.12 of the time at L = 16.
     fn better_of(self, set: &mut Set, k: u64, p: usize, b: Best) -> Best
         requires { Splits k p self.n }
         ensures { result ≡ better lines (look self.entry.work.now) self.entry.n (32 * k + p) b }
@@ -82,8 +82,8 @@ impl Number<'_> {
         b
     }
 
-    // The best split, from the best of the kinds before k, with those of the kind k. Bit p of places says whether there is one at p. The kinds
-    // are constants of `Line`: document 01's form by place.
+    // The best split, from the best of the kinds before k, with those of the kind k. Bit p of places says whether there is one at p. The
+    // kinds are constants of `Line`: document 01's form by place.
     fn best_of(self, set: &mut Set, k: u64, places: u64, first: Best) -> Best
         requires { (1 ≤ k) × (k ≤ 3) × (first ≡ best_below lines (look self.work.now) self.n (32 * k)) × (Places k places self.n) }
         ensures { result ≡ best_below lines (look self.entry.work.now) self.entry.n (32 * k + 32) }

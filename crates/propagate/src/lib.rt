@@ -91,7 +91,7 @@ fn read_clause(words: &[i32], values: &[u8]) -> Option<Reading>
 
 // ---- the pass
 
-// One clause: what it sets is set, and its words are counted. Words and values stay two: the one is read and the other is the caller's room.
+// One clause: what it sets is set, and its words are counted. Words and values stay two: one is read, and the other is the caller's room.
 #[tactic(auto, using(crate::proofs::Passing::sets_inside))]
 fn step(words: &[i32], values: &mut [u8]) -> Result<usize, Refusal>
     ensures value { result ≡ turn_of (reading_clause values.old words.now) }

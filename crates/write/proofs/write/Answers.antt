@@ -22,16 +22,16 @@ pub invariant_of-call : goal.invariant_of-call
 invariant_of-call c =
     let a = c.args in
     let t = c.twos in
-    let k = can_write a.c a.w a.x.now a.first a.recipe.now (sym c.test_inputs.ensures ∙ c.in_ok-test_inputs.was) t.result c.bit_length.result
-    t.ensures.0 (c.bit_length.ensures.0 ∙ ap (λ (n : ℕ). bit_length (a.c * n)) c.largest.ensures.0) in
+    let k = can_write a.c a.w a.x.now a.first a.recipe.now (sym c.test_inputs.ensures ∙ c.in_ok-test_inputs.was) t.result
+    c.bit_length.result t.ensures.0 (c.bit_length.ensures.0 ∙ ap (λ (n : ℕ). bit_length (a.c * n)) c.largest.ensures.0) in
     record { lines = k.lines; width = k.width; fit = k.fit; first_pos = k.first_pos; few_bits = k.few_bits }
 
 pub write_product-requires : goal.write_product-requires
 write_product-requires c =
     let a = c.args in
     let t = c.twos in
-    let k = can_write a.c a.w a.x.now a.first a.recipe.now (sym c.test_inputs.ensures ∙ c.in_ok-test_inputs.was) t.result c.bit_length.result
-    t.ensures.0 (c.bit_length.ensures.0 ∙ ap (λ (n : ℕ). bit_length (a.c * n)) c.largest.ensures.0) in
+    let k = can_write a.c a.w a.x.now a.first a.recipe.now (sym c.test_inputs.ensures ∙ c.in_ok-test_inputs.was) t.result
+    c.bit_length.result t.ensures.0 (c.bit_length.ensures.0 ∙ ap (λ (n : ℕ). bit_length (a.c * n)) c.largest.ensures.0) in
     k.bits
 
 pub returns : goal.returns
