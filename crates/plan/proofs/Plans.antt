@@ -13,6 +13,7 @@ use Rattle.line.specs.Limits.{line_bytes, most_bits, most_constant, out_of_range
 use Rattle.line.specs.Number.{bit_length, odd_part}
 use Rattle.line.specs.Order.{answer_by, first_broken, refuses}
 use Rattle.line.specs.declared.Line.{Line}
+use Rattle.line.specs.declared.Refusal.{Refusal}
 use Rattle.line.specs.declared.Refusal.TheVariants.{Constant, WorkRoom}
 use Rattle.line.specs.Order.{Verdict}
 use Rattle.split.specs.Choose.{line_count, lines, look, split_of, splits}
@@ -42,6 +43,11 @@ pub by_verdict : (c : ℕ) (w r : List ℕ) (v : Verdict) → first_broken (plan
 unfolding planned plan_outcome plan_answer
 by_verdict c w r v e =
     ap (λ (u : Verdict). plan_by split_of (answer_by Err (Ok (length (recipe_for split_of (odd_part c)))) u) c w r) e
+
+-- a refusal leaves both rooms
+pub rooms_stay : (c : ℕ) (w r : List ℕ) (x : Refusal) → Err x ≡ first_broken (plan_tests c (length w) (length r))
+    → planning (Err x) w r ≡ planned c w r
+rooms_stay c w r x e = sym (by_verdict c w r (Err x) (sym e))
 
 -- a work room that is too short is refused, where the constant is in range
 pub work_short : (c work recipe d m p : ℕ) → out_of_range c ≡ false → d ≡ odd_part c → m ≡ bit_length d → p ≡ 2 ^ (m - 1) → work < p

@@ -14,6 +14,7 @@ use borrow.Author.Tests.{ne_eqb, lt-ltb}
 use Rattle.line.specs.Limits.{most_width, out_of_range, not_a_width}
 use Rattle.line.specs.Number.{bit_length, twos, odd_part}
 use Rattle.line.specs.Order.{refuses, first_broken}
+use Rattle.line.specs.declared.Refusal.{Refusal}
 use Rattle.line.specs.declared.Refusal.TheVariants.{Constant, Width}
 use Rattle.line.specs.Order.{Verdict}
 use Rattle.line.proofs.Number.{lt_or_le, odd_part_le, odd_part_odd, odd_part_whole}
@@ -21,7 +22,7 @@ use Rattle.recipe.specs.Check.{line_at}
 use Rattle.product.specs.Bit.{given, numbered}
 use Rattle.product.specs.Lines.{columns}
 use Rattle.product.specs.Product.{Product, product_made, lines_from, product_of}
-use Rattle.product.specs.Write.{input_tests, y_length, product_written, written, plain_written}
+use Rattle.product.specs.Write.{input_tests, y_length, product_written, writing, written, plain_written}
 use Rattle.product.proofs.BitLengths.{columns_le, bit_length_of_y}
 use Rattle.product.proofs.AcceptedMeans.{length_of_y}
 use Rattle.product.proofs.Given.{unfit_of, above_0}
@@ -100,6 +101,11 @@ unread c w x x' first first' recipe bits clauses h = go (refuses (out_of_range c
         ∙ sym (refused_left c w x' first' recipe bits clauses Width (rw (e, wide)))
     go (Err r) e =
         refused_left c w x first recipe bits clauses r (rw e) ∙ sym (refused_left c w x' first' recipe bits clauses r (rw e))
+
+-- a test refuses: both rooms stay
+pub rooms_stay : (c w : ℕ) (x : List ℤ) (first : ℕ) (recipe : List ℕ) (bits clauses : List ℤ) (r : Refusal)
+    → Err r ≡ first_broken (input_tests c w x first recipe) → writing (Err r) bits clauses ≡ written c w x first recipe bits clauses
+rooms_stay c w x first recipe bits clauses r e = sym (refused_left c w x first recipe bits clauses r (sym e))
 
 -- k is w, or 16 where w is above it
 pub plain_is : (c w k : ℕ) (x : List ℤ) (first : ℕ) (recipe : List ℕ) (bits clauses : List ℤ) → (w ≤ most_width → k ≡ w) → x ≡ numbered 1 k

@@ -259,6 +259,7 @@ fn test_inputs(c: u64, w: u32, x: &[i32], first: u32, recipe: &[u8]) -> Result<(
 }
 
 // Writes the clauses of a recipe for c at width w: x is w literals, and first the first free number.
+#[tactic(auto, using(crate::proofs::Calls::rooms_stay))]
 pub fn write(
     c: u64,
     w: u32,

@@ -1,22 +1,9 @@
 -- `write::write`: the tests, and behind them the product (proofs/Calls.antt). Assumes nothing.
-use Rattle.std.specs.Prelude.{◌≡◌, Err}
-use Rattle.std.proofs.Common.{rules}
-use Rattle.product.specs.Write.{Written, writing}
 use Prim.Native.Nat.{ℕ, ◌*◌}
 use mathlib.Core.Path.{sym, ap, ◌∙◌}
 use Rattle.line.specs.Number.{bit_length}
-use Rattle.product.proofs.Tests.{refused_left}
 use Rattle.write.proofs.Calls.{can_write, all_passed}
 use Rattle.write.proofs.write.Goals as goal
-
-pub returns-in_err-test_inputs : goal.returns-in_err-test_inputs
-returns-in_err-test_inputs c =
-    let a = c.args in
-    let x = c.in_err-test_inputs.field-0.0 in
-    let e : ◌≡◌ {A = Written} c.from_residual.result (Err x) = search rules in
-    ap (λ (o : Written). writing o a.bits.now a.clauses.now) e
-    ∙ sym (refused_left a.c a.w a.x.now a.first a.recipe.now a.bits.now a.clauses.now x
-    (sym c.test_inputs.ensures ∙ c.in_err-test_inputs.was))
 
 pub invariant_of-call : goal.invariant_of-call
 invariant_of-call c =
