@@ -9,5 +9,5 @@ ghost use Rattle.cnf.specs.Words.{named};
 pub fn named(l: i32) -> u64
     ensures { (result ≡ named l) × (result ≤ 2 ^ 31) }
 {
-    u64::from(l.unsigned_abs())
+    line::magnitude(i64::from(l))
 }

@@ -8,7 +8,7 @@ use lib.ListN.{length, length-append, take, drop}
 use lib.Seq.{sets, sets-eq}
 use borrow.Rule.Slice.PartMut.{put_mid}
 use Rattle.std.proofs.Common.{append_assoc}
-use Rattle.std.proofs.lemmas.List.{drop-drop}
+use Rattle.std.proofs.lemmas.List.{drop-drop, take-append-drop}
 use Rattle.line.proofs.Room.{sets_append}
 use Rattle.dimacs.specs.declared.put.Out.{Out}
 use Rattle.dimacs.specs.Puts.{Puts}
@@ -18,6 +18,14 @@ pub copied : (s b : List ℕ) (a k : ℕ) → k ≡ length b → a + k ≤ lengt
 copied s b a k e h =
     rw e (ap (λ r. take a s ++ (b ++ r)) (drop-drop (length b) a s)
     ∙ sym (sets-eq b s a (omega arith) ∙ append_assoc (take a s) b (drop (a + length b) s)))
+
+-- digits that end at e, what stood before and behind them left
+pub written : (s t b : List ℕ) (a r e : ℕ) → r + length b ≡ e → e ≡ a + length b → e ≤ length s
+    → drop r t ≡ b ++ drop e s → take r t ≡ take r s → t ≡ sets s a b
+written s t b a r e p q h w u =
+    let i : r ≡ a = omega arith in
+    sym (take-append-drop r t) ∙ ap₂ (λ (x y : List ℕ). x ++ y) u w
+    ∙ rw (i, q) (sym (sets-eq b s a (omega arith) ∙ append_assoc (take a s) b (drop (a + length b) s)))
 
 -- nothing was written
 pub puts_none : (s : Out) → s.at ≤ length s.room.now → Puts s s []

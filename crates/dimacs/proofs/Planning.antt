@@ -130,7 +130,7 @@ pub record Shows (c w : ℕ) (a : Planned) (recipe : List ℕ) : Type 0 where
   pub text : planned_text a c w recipe ≡ answered split_of (Some (c, w))
   pub fits : PlannedFits a program_recipe
 
-planned_fits_as : {a b : Planned} (room : ℕ) → a ≡ b → PlannedFits a room → PlannedFits b room
+pub planned_fits_as : {a b : Planned} (room : ℕ) → a ≡ b → PlannedFits a room → PlannedFits b room
 planned_fits_as room e f = subst (λ (a : Planned). PlannedFits a room) e f
 
 module _ (c w : ℕ) (work recipe : List ℕ) (hw : length work ≡ program_work) (hr : length recipe ≡ program_recipe) (a : Planned)

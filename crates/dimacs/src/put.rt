@@ -1,8 +1,20 @@
 // Bytes and numbers put into a lent room, one behind the other.
-ghost use Rattle.std.specs.Prelude.{[], ◌∷◌, length};
+ghost use Rattle.std.specs.Prelude.{[], ◌∷◌, ◌≡◌, length};
+ghost use Rattle.std.specs.Fmt.{decimal, signed_decimal};
 ghost use Rattle.dimacs.specs.Puts.{Has, Puts};
 
-use itoa::{Buffer, Integer};
+use itoa::write_digits;
+
+// How many digits n has. Most words of a file have one or two, and for these a test serves here and in `write_digits`.
+fn digits(n: u64) -> usize
+    ensures { result ≡ length (decimal n) }
+{
+    match n {
+        0..=9 => 1,
+        10..=99 => 2,
+        _ => n.ilog10() as usize + 1,
+    }
+}
 
 // The room, and the place behind what was put. The room is the caller's, and no Vec: a call takes no heap.
 #[derive(Drop)]
@@ -30,11 +42,26 @@ impl Out<'_> {
         self.at = end;
     }
 
-    // No `write!`: its contract lets it fail in a room that is long enough, and `file` tells of no such failure.
-    pub(crate) fn integer<I: Integer>(&mut self, n: I)
-        requires { Has self.old (length (I.text n)) }
-        ensures { Puts self.old self.new (I.text n) }
+    // Straight into the room: by a buffer and a copy of it `file` took 1.4 of the time, and by a call for each number 1.2, since the place
+    // then goes through memory. No `write!`: its contract lets it fail in a room that is long enough, and `file` tells of no such failure.
+    #[inline]
+    #[tactic(auto, using(crate::proofs::Place::written))]
+    pub(crate) fn decimal(&mut self, n: u64)
+        requires { Has self.old (length (decimal n)) }
+        ensures { Puts self.old self.new (decimal n) }
     {
-        self.bytes(Buffer::new().format(n).as_bytes());
+        let end = self.at + digits(n);
+        write_digits(n, self.room, end);
+        self.at = end;
+    }
+
+    pub(crate) fn signed(&mut self, z: i32)
+        requires { Has self.old (length (signed_decimal z)) }
+        ensures { Puts self.old self.new (signed_decimal z) }
+    {
+        if z < 0 {
+            self.byte(b'-');
+        }
+        self.decimal(u64::from(z.unsigned_abs()));
     }
 }

@@ -17,7 +17,7 @@ impl Out<'_> {
         ensures short { self.new.at ≤ self.old.at + (length name.now + 21) }
     {
         self.bytes(name);
-        self.integer(n);
+        self.decimal(n);
         self.byte(last);
     }
 
@@ -38,7 +38,7 @@ impl Out<'_> {
         ensures short { self.new.at ≤ self.old.at + 12 }
     {
         self.byte(b' ');
-        self.integer(y);
+        self.signed(y);
     }
 
     // Here and in `words` a loop of one line: what is generic in the two is the `for`.
@@ -70,7 +70,7 @@ impl Out<'_> {
         ensures put { Puts self.old self.new (word_text z) }
         ensures short { self.new.at ≤ self.old.at + 12 }
     {
-        self.integer(z);
+        self.signed(z);
         self.byte(if z == 0 { b'\n' } else { b' ' });
     }
 

@@ -1,14 +1,19 @@
 -- What each public call leaves is fixed by its contract alone: two outcomes of one call that satisfy it have the same answer and leave
 -- the same in each room and field. `Learnt` is what a caller learns of an outcome, the contract's `ensures` as it stands in the code;
--- nothing else is taken for granted, so a contract that left something open would be refused here.
+-- nothing else is taken for granted, so a contract that left something open would be refused here. Of `records::read_full`, which reads by
+-- std's contract of a reader, it is said of two successes over known bytes (`read_full_once` names what it asks).
 use Prim.Native.Nat.{ℕ}
 use mathlib.Core.Path.{◌≡◌, sym, ap, ◌∙◌}
 use mathlib.Core.List.{List}
+use Rattle.std.specs.Prelude.{length, take, Some, Ok}
+use Rattle.std.specs.declared.clone.Clone as Clone
+use Rattle.std.specs.declared.io.traits.Read as Read
+use mir.Syntax.{Dict}
 use lib.IntN.{ℤ}
 use contract.Lifetimes.{Lfts}
 use denote.Triple.Clauses.{AtExit}
 use denote.RattleType.{RattleType}
-use denote.Param.Laws.{Laws}
+use denote.Param.Laws.{Laws, IsCopy}
 use borrow.Fn.Kinds.{ParamKind, ResultKind, Out, Dens, res_t, ended_of}
 use Rattle.line.proofs.Line.read.Kinds as LineReadKinds
 use Rattle.line.proofs.Line.read.Reads as LineRead
@@ -38,6 +43,16 @@ use Rattle.line.proofs.Refusal.told.Kinds as RefusalToldKinds
 use Rattle.line.proofs.Refusal.told.Reads as RefusalTold
 use Rattle.line.proofs.Refusal.number.Kinds as RefusalNumberKinds
 use Rattle.line.proofs.Refusal.number.Reads as RefusalNumber
+use Rattle.records.specs.declared.Entry as Entry
+use Rattle.records.proofs.Outcomes.{ended_once, to_the_end_said, reads_once, read_full_said}
+use Rattle.records.proofs.read_full.Kinds as ReadFullKinds
+use Rattle.records.proofs.read_full.Reads as ReadFull
+use Rattle.records.proofs.to_the_end.Kinds as ToTheEndKinds
+use Rattle.records.proofs.to_the_end.Reads as ToTheEnd
+use Rattle.records.proofs.checksum.Kinds as ChecksumKinds
+use Rattle.records.proofs.checksum.Reads as Checksum
+use Rattle.records.proofs.Entry.unsigned.Kinds as EntryUnsignedKinds
+use Rattle.records.proofs.Entry.unsigned.Reads as EntryUnsigned
 use Rattle.recipe.proofs.check.Kinds as CheckKinds
 use Rattle.recipe.proofs.check.Reads as Check
 use Rattle.recipe.proofs.check_lines.Kinds as CheckLinesKinds
@@ -241,3 +256,29 @@ pub archive_propagate_once : Coincide ArchivePropagateKinds.ps ArchivePropagateK
     (λ κs x y e f. (x ≡ y) × (e.1.1.1.0.now ≡ f.1.1.1.0.now) × (e.1.1.1.1.0.now ≡ f.1.1.1.1.0.now))
 archive_propagate_once κs a x y e f p q =
     (p.number_told ∙ sym q.number_told, p.value_room ∙ sym q.value_room, p.clauses_told ∙ sym q.clauses_told)
+
+-- Two successes of one call, over a reader whose bytes are known: the number told, that many bytes at the room's front, and what the
+-- reader has left are the same. A lent room keeps its length by its type, which `Learnt` leaves out, so that is asked for. What stands
+-- behind these bytes, and all of it where a read fails or the reader's bytes are not known, the contract leaves open.
+pub read_full_once : (A : RattleType) (h : Laws A) (reader : Read.Ghosts A.Denot) (dict : Dict) (known : List ℕ)
+    → Coincide (ReadFullKinds.ps A h) (ReadFullKinds.r A h)
+    (λ κs a x e. ReadFull.Learnt A h reader dict κs a x e × (length e.1.0.now ≡ length a.1.0.now)
+    × (reader.remaining a.0.now ≡ Some known))
+    (λ κs x y e f. (n m : ℕ) → x ≡ Ok n → y ≡ Ok m
+    → (n ≡ m) × (take n e.1.0.now ≡ take m f.1.0.now) × (reader.remaining e.0.now ≡ reader.remaining f.0.now))
+read_full_once A h reader dict known κs a x y e f p q n m is_n is_m =
+    reads_once known _ _ _ e.1.0.now f.1.0.now n m p.2 (p.1 ∙ sym q.1) (read_full_said A h reader dict κs a x e n is_n p.0)
+    (read_full_said A h reader dict κs a y f m is_m q.0)
+
+pub to_the_end_once : Answers ToTheEndKinds.ps ToTheEndKinds.r ToTheEnd.Learnt
+to_the_end_once κs a x y e f p q = ended_once a.0 x y (to_the_end_said κs a x e p) (to_the_end_said κs a y f q)
+
+pub checksum_once : (A : RattleType) (h : Laws A) (c : IsCopy A) (entry : Entry.Ghosts A.Denot) (entry-dict : Dict)
+    (clone : Clone.Ghosts A.Denot) (clone-dict : Dict)
+    → Answers (ChecksumKinds.ps A h c) (ChecksumKinds.r A h c) (Checksum.Learnt A h c entry entry-dict clone clone-dict)
+checksum_once A h c entry entry-dict clone clone-dict κs a x y e f p q = p ∙ sym q
+
+pub entry_unsigned_once : (A : RattleType) (h : Laws A) (c : IsCopy A) (entry : Entry.Ghosts A.Denot) (entry-dict : Dict)
+    (clone : Clone.Ghosts A.Denot) (clone-dict : Dict)
+    → Answers (EntryUnsignedKinds.ps A h c) (EntryUnsignedKinds.r A h c) (EntryUnsigned.Learnt A h c entry entry-dict clone clone-dict)
+entry_unsigned_once A h c entry entry-dict clone clone-dict κs a x y e f p q = p ∙ sym q

@@ -279,7 +279,7 @@ pub filled_again : (v : ℕ → ℕ) (l₀ l : List ℕ) (m : ℕ) → Filled v 
 filled_again v l₀ l m f = record { same = refl; known = f.known; rest = refl }
 
 -- a room whose first entry was written over
-filled_from : (v : ℕ → ℕ) (l₀ : List ℕ) (x top : ℕ) (l : List ℕ) → Filled v (set l₀ 0 x) l top → Filled v l₀ l top
+pub filled_from : (v : ℕ → ℕ) (l₀ : List ℕ) (x top : ℕ) (l : List ℕ) → Filled v (set l₀ 0 x) l top → Filled v l₀ l top
 filled_from v l₀ x top l f = record {
   same = f.same ∙ length-set l₀ 0 x;
   known = f.known;
@@ -305,7 +305,7 @@ splits_length t L = from 0 (2 ^ (L - 1))
     from i zero = refl
     from i (suc k) = ap suc (from (suc i) k)
 
-filled_over : (t : ℕ → ℕ) (l₀ l : List ℕ) (top : ℕ) → 0 < top → 2 ^ (top - 1) ≤ length l₀ → Filled t l₀ l top
+pub filled_over : (t : ℕ → ℕ) (l₀ l : List ℕ) (top : ℕ) → 0 < top → 2 ^ (top - 1) ≤ length l₀ → Filled t l₀ l top
     → l ≡ sets l₀ 0 (splits t top)
 unfolding splits look
 filled_over t l₀ l top pos long f =

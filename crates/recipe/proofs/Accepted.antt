@@ -1,6 +1,6 @@
 -- Which recipes are accepted.
 --
--- Statement. `checked c recipe` is `Accepted` exactly when `Right c recipe` (`accepted_right`, `right_accepted`): c is from 1 to 65,535;
+-- Statement. `checked c recipe` is `Ok tt` exactly when `Right c recipe` (`accepted_right`, `right_accepted`): c is from 1 to 65,535;
 -- the recipe is a whole number of five-byte lines, at most 32; every line has its top bit zero, a kind from 1 to 3, operands that are
 -- earlier than itself, an odd coefficient of at most 1,048,575, and this coefficient is the (perhaps negative) number that its kind gives
 -- from the operands' coefficients; and the last line's coefficient, or 1 where there is no line, is the odd part of c. This is demand 2's

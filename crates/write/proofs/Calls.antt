@@ -30,6 +30,16 @@ use Rattle.product.proofs.Tests.{InputsRight, kept_inputs, refused_left, product
 use Rattle.write.specs.Rooms.{Writable, CanWrite}
 use Rattle.write.specs.Sizes.{most_columns}
 
+-- what holds of a recipe's lines holds of fewer of them
+pub fewer : {w : ℕ} {recipe : List ℕ} {n k : ℕ} → Writable w recipe n → k ≤ n → Writable w recipe k
+fewer f h = record {
+  few = omega (arith, f.few, h);
+  whole = omega (arith, f.whole, h);
+  lefts = λ i q. f.lefts i (omega (arith, q, h));
+  rights = λ i q. f.rights i (omega (arith, q, h));
+  columns = λ i q. f.columns i (omega (arith, q, h));
+}
+
 module _ (c w : ℕ) (x : List ℤ) (first : ℕ) (recipe : List ℕ) (kept : first_broken (input_tests c w x first recipe) ≡ Ok tt) where
   i : InputsRight c w x first recipe
   i = kept_inputs c w x first recipe kept

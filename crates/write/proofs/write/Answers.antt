@@ -1,8 +1,9 @@
 -- `write::write`: the tests, and behind them the product (proofs/Calls.antt). Assumes nothing.
 use Prim.Native.Nat.{ℕ, ◌*◌}
 use mathlib.Core.Path.{sym, ap, ◌∙◌}
+use native.Mathlib.Omega.{arith}
 use Rattle.line.specs.Number.{bit_length}
-use Rattle.write.proofs.Calls.{can_write, all_passed}
+use Rattle.write.proofs.Calls.{fewer, can_write, all_passed}
 use Rattle.write.proofs.write.Goals as goal
 
 pub invariant_of-call : goal.invariant_of-call
@@ -11,7 +12,7 @@ invariant_of-call c =
     let t = c.twos in
     let k = can_write a.c a.w a.x.now a.first a.recipe.now (sym c.test_inputs.ensures ∙ c.in_ok-test_inputs.was) t.result
     c.bit_length.result t.ensures.0 (c.bit_length.ensures.0 ∙ ap (λ (n : ℕ). bit_length (a.c * n)) c.largest.ensures.0) in
-    record { lines = k.lines; width = k.width; fit = k.fit; first_pos = k.first_pos; few_bits = k.few_bits }
+    record { lines = fewer k.lines (omega arith); width = k.width; fit = k.fit; first_pos = k.first_pos; few_bits = k.few_bits }
 
 pub write_product-requires : goal.write_product-requires
 write_product-requires c =

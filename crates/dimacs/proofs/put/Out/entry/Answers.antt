@@ -4,4 +4,4 @@ use Rattle.dimacs.proofs.Place.{puts_two}
 use Rattle.dimacs.proofs.put.Out.entry.Goals as goal
 
 pub returns-clause-put : goal.returns-clause-put
-returns-clause-put c = puts_two c.byte.ensures (rw (same_signed c.args.y c.ranges.y) at c.integer.ensures)
+returns-clause-put c = puts_two c.byte.ensures (rw (same_signed c.args.y c.ranges.y) at c.signed.ensures)

@@ -6,4 +6,4 @@ use Rattle.dimacs.proofs.put.Out.number.Goals as goal
 
 pub returns-clause-put : goal.returns-clause-put
 returns-clause-put c =
-    puts_two c.bytes.ensures (puts_two (rw (same_decimal c.args.n (omega arith)) at c.integer.ensures) c.byte.ensures)
+    puts_two c.bytes.ensures (puts_two (rw (same_decimal c.args.n (omega arith)) at c.decimal.ensures) c.byte.ensures)
