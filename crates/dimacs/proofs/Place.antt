@@ -13,19 +13,20 @@ use Rattle.line.proofs.Room.{sets_append}
 use Rattle.dimacs.specs.declared.put.Out.{Out}
 use Rattle.dimacs.specs.Puts.{Puts}
 
+-- bytes between what stood before and behind them
+between : (s b : List ℕ) (a : ℕ) → a + length b ≤ length s → take a s ++ (b ++ drop (a + length b) s) ≡ sets s a b
+between s b a h = sym (sets-eq b s a h ∙ append_assoc (take a s) b (drop (a + length b) s))
+
 -- bytes that were copied into a part of the room
 pub copied : (s b : List ℕ) (a k : ℕ) → k ≡ length b → a + k ≤ length s → put_mid a k s b ≡ sets s a b
-copied s b a k e h =
-    rw e (ap (λ r. take a s ++ (b ++ r)) (drop-drop (length b) a s)
-    ∙ sym (sets-eq b s a (omega arith) ∙ append_assoc (take a s) b (drop (a + length b) s)))
+copied s b a k e h = rw e (ap (λ r. take a s ++ (b ++ r)) (drop-drop (length b) a s) ∙ between s b a (omega arith))
 
--- digits that end at e, what stood before and behind them left
-pub written : (s t b : List ℕ) (a r e : ℕ) → r + length b ≡ e → e ≡ a + length b → e ≤ length s
+-- digits that were put so that they end at e, what stood before and behind them left
+pub put_to_end : (s t b : List ℕ) (a r e : ℕ) → r + length b ≡ e → e ≡ a + length b → e ≤ length s
     → drop r t ≡ b ++ drop e s → take r t ≡ take r s → t ≡ sets s a b
-written s t b a r e p q h w u =
+put_to_end s t b a r e p q h w u =
     let i : r ≡ a = omega arith in
-    sym (take-append-drop r t) ∙ ap₂ (λ (x y : List ℕ). x ++ y) u w
-    ∙ rw (i, q) (sym (sets-eq b s a (omega arith) ∙ append_assoc (take a s) b (drop (a + length b) s)))
+    sym (take-append-drop r t) ∙ ap₂ (λ (x y : List ℕ). x ++ y) u w ∙ rw (i, q) (between s b a (omega arith))
 
 -- nothing was written
 pub puts_none : (s : Out) → s.at ≤ length s.room.now → Puts s s []

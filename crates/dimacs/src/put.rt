@@ -3,6 +3,7 @@ ghost use Rattle.std.specs.Prelude.{[], ◌∷◌, ◌≡◌, length};
 ghost use Rattle.std.specs.Fmt.{decimal, signed_decimal};
 ghost use Rattle.dimacs.specs.Puts.{Has, Puts};
 
+use cnf::named;
 use itoa::write_digits;
 
 // How many digits n has. Most words of a file have one or two, and for these a test serves here and in `write_digits`.
@@ -45,7 +46,7 @@ impl Out<'_> {
     // Straight into the room: by a buffer and a copy of it `file` took 1.4 of the time, and by a call for each number 1.2, since the place
     // then goes through memory. No `write!`: its contract lets it fail in a room that is long enough, and `file` tells of no such failure.
     #[inline]
-    #[tactic(auto, using(crate::proofs::Place::written))]
+    #[tactic(auto, using(crate::proofs::Place::put_to_end))]
     pub(crate) fn decimal(&mut self, n: u64)
         requires { Has self.old (length (decimal n)) }
         ensures { Puts self.old self.new (decimal n) }
@@ -62,6 +63,6 @@ impl Out<'_> {
         if z < 0 {
             self.byte(b'-');
         }
-        self.decimal(u64::from(z.unsigned_abs()));
+        self.decimal(named(z));
     }
 }
